@@ -1,0 +1,9 @@
+pub mod Event
+pub mod Lexical
+pub mod Grammar
+pub mod Reading
+pub mod Machine
+pub mod Told
+pub mod Texts
+pub mod Value
+pub mod Samples

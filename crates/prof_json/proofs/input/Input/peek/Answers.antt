@@ -1,0 +1,22 @@
+use Rattle.std.proofs.Common.{◌≡◌, ◌≤◌, ◌<◌, length, ap, ◌∙◌, sym, arith, ◌∷◌, get_or, slice_range, suc}
+use Rattle.std.proofs.lemmas.List.{get_or_read}
+use Rattle.prof_json.specs.Ahead.{Ahead}
+use Rattle.prof_json.proofs.Windows.{slice_range-first}
+use Rattle.prof_json.proofs.input.Input.peek.Goals as goal
+
+pub returns-clause-shown : goal.returns-clause-shown
+returns-clause-shown g c =
+    let i = c.self.inside in
+    let len = i.window.ok.0 in
+    let inv = c.self.invariant in
+    let below : i.from < i.to = omega arith in
+    let within : i.to ≤ length i.window.items = omega arith in
+    let place : i.place ≡ c.fill.new.self.place = ap (λ (x : Ahead). x.place) c.self.view_is in
+    let limit : i.limit ≡ c.fill.new.self.limit = ap (λ (x : Ahead). x.limit) c.self.view_is in
+    let in_window : i.from < length i.window.items = omega arith in
+    let rest = slice_range i.window.items (suc i.from) i.to in
+    record {
+      rest = rest;
+      bytes = ap (λ (x : Ahead). x.bytes) (sym c.self.view_is) ∙ slice_range-first i.window.items i.from i.to below within ∙ ap (λ x. x ∷ rest) (sym (get_or_read i.window.items i.from c.index.result.now in_window c.index.ensures 0));
+      room = omega arith;
+    }

@@ -1,0 +1,6 @@
+use Rattle.std.proofs.Common.{◌≡◌, ◌∙◌, sym}
+use Rattle.prof_json.proofs.Enclosing.{ends, none_last}
+use Rattle.prof_json.proofs.steps.read_behind_value.Goals as goal
+
+pub returns-in-None-clause-ok : goal.returns-in-None-clause-ok
+returns-in-None-clause-ok g c = ends _ _ _ _ _ c.read_end.result (sym c.deref.ensures.value ∙ none_last c.deref.result.now (sym c.in-None.ensures.value)) c.read_end.ensures.ok

@@ -1,0 +1,9 @@
+pub mod Bytes
+pub mod Ahead
+pub mod Moves
+pub mod Kept
+pub mod Numbers
+pub mod Nest
+pub mod Position
+pub mod Step
+pub mod Skip

@@ -1,0 +1,20 @@
+//! A streaming reader of JSON texts, whose faults name their place.
+#![tactic(auto)]
+
+mod answer;
+mod behind;
+mod buffer;
+mod escape;
+mod input;
+mod nesting;
+mod number;
+mod reading;
+mod scan;
+mod steps;
+mod string;
+mod token;
+mod value;
+
+pub use answer::{Event, JsonFault};
+pub use nesting::{Bracket, Phase};
+pub use reading::Reader;

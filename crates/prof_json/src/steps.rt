@@ -1,0 +1,256 @@
+// The next event, by what may come.
+ghost use Rattle.std.specs.Prelude.{◌≡◌, ℕ, ◌<◌, ◌≤◌, List, [], ◌∷◌, ◌++◌, length, IfOk};
+ghost use Rattle.prof_json.specs.Ahead.{IsNext, Passes};
+ghost use Rattle.prof_json.specs.Nest.{Occurs, IsWithin};
+ghost use Rattle.prof_json.specs.Step.{BeginsValue, IsStep};
+ghost use Rattle.prof_json.specs.Moves.{Moves, lent, fault_of};
+
+use crate::buffer::Buffer;
+use crate::input::Input;
+use crate::string::read_string;
+use crate::token::{need_behind_blank, pass_mark, skip_blank};
+use crate::value::begin_value;
+use crate::{Bracket, Event, JsonFault, Phase};
+use prof_io::Source;
+
+/// Reads blanks, and the value behind them or its opening bracket.
+fn read_value<S: Source>(
+    input: &mut Input,
+    src: &mut S,
+    brackets: &mut Vec<Bracket>,
+    text: &mut Buffer,
+) -> Result<Event, JsonFault>
+    requires few { length brackets.old.items ≤ 256 }
+    ensures moves { Moves (fault_of result)
+        (S.sure src.old) input.old (lent (S.left src.old) (S.written src.old) (S.place src.old) (S.faults src.old))
+        (S.sure src.new) input.new (lent (S.left src.new) (S.written src.new) (S.place src.new) (S.faults src.new)) }
+    ensures ok { IfOk result (λ e. BeginsValue brackets.old.items e brackets.new.items input.old input.new text.old text.new) }
+{
+    let first = need_behind_blank(input, src)?;
+    begin_value(input, src, brackets, text, first)
+}
+
+/// Reads the name of a member, whose first byte is shown.
+fn read_name<S: Source>(
+    input: &mut Input,
+    src: &mut S,
+    text: &mut Buffer,
+    first: u8,
+) -> Result<Event, JsonFault>
+    requires { IsNext first input.old }
+    ensures moves { Moves (fault_of result)
+        (S.sure src.old) input.old (lent (S.left src.old) (S.written src.old) (S.place src.old) (S.faults src.old))
+        (S.sure src.new) input.new (lent (S.left src.new) (S.written src.new) (S.place src.new) (S.faults src.new)) }
+    ensures ok { IfOk result (λ e. (e ≡ Event.Name) × (input.old.place < input.new.place)) }
+{
+    if first != b'"' {
+        return Err(input.wrong());
+    }
+    input.pass(1);
+    read_string(input, src, text)?;
+    Ok(Event::Name)
+}
+
+/// Closes the innermost bracket.
+fn close_bracket(input: &mut Input, brackets: &mut Vec<Bracket>)
+    requires next { (b : ℕ) × IsNext b input.old }
+    ensures passed { Passes 1 input.old input.new }
+    ensures closed { (bracket : Bracket) (outer : List Bracket) → brackets.old.items ≡ outer ++ bracket ∷ [] → brackets.new.items ≡ outer }
+{
+    input.pass(1);
+    let _closed = brackets.pop();
+}
+
+/// At the beginning of the text.
+fn read_start<S: Source>(
+    input: &mut Input,
+    src: &mut S,
+    brackets: &mut Vec<Bracket>,
+    text: &mut Buffer,
+) -> Result<Event, JsonFault>
+    requires occurs { Occurs Phase.Start brackets.old.items }
+    requires few { length brackets.old.items ≤ 256 }
+    ensures moves { Moves (fault_of result)
+        (S.sure src.old) input.old (lent (S.left src.old) (S.written src.old) (S.place src.old) (S.faults src.old))
+        (S.sure src.new) input.new (lent (S.left src.new) (S.written src.new) (S.place src.new) (S.faults src.new)) }
+    ensures ok { IfOk result (λ e. IsStep (record { open_ = brackets.old.items; phase = Phase.Start }) e brackets.new.items input.old input.new text.old text.new) }
+{
+    pass_mark(input, src)?;
+    read_value(input, src, brackets, text)
+}
+
+/// Behind the bracket that opens an array.
+fn read_first_item<S: Source>(
+    input: &mut Input,
+    src: &mut S,
+    brackets: &mut Vec<Bracket>,
+    text: &mut Buffer,
+) -> Result<Event, JsonFault>
+    requires occurs { Occurs Phase.FirstItem brackets.old.items }
+    requires few { length brackets.old.items ≤ 256 }
+    ensures moves { Moves (fault_of result)
+        (S.sure src.old) input.old (lent (S.left src.old) (S.written src.old) (S.place src.old) (S.faults src.old))
+        (S.sure src.new) input.new (lent (S.left src.new) (S.written src.new) (S.place src.new) (S.faults src.new)) }
+    ensures ok { IfOk result (λ e. IsStep (record { open_ = brackets.old.items; phase = Phase.FirstItem }) e brackets.new.items input.old input.new text.old text.new) }
+{
+    let first = need_behind_blank(input, src)?;
+    if first == b']' {
+        close_bracket(input, brackets);
+        return Ok(Event::ArrayEnd);
+    }
+    begin_value(input, src, brackets, text, first)
+}
+
+/// Behind the bracket that opens an object.
+fn read_first_member<S: Source>(
+    input: &mut Input,
+    src: &mut S,
+    brackets: &mut Vec<Bracket>,
+    text: &mut Buffer,
+) -> Result<Event, JsonFault>
+    requires occurs { Occurs Phase.FirstMember brackets.old.items }
+    requires few { length brackets.old.items ≤ 256 }
+    ensures moves { Moves (fault_of result)
+        (S.sure src.old) input.old (lent (S.left src.old) (S.written src.old) (S.place src.old) (S.faults src.old))
+        (S.sure src.new) input.new (lent (S.left src.new) (S.written src.new) (S.place src.new) (S.faults src.new)) }
+    ensures ok { IfOk result (λ e. IsStep (record { open_ = brackets.old.items; phase = Phase.FirstMember }) e brackets.new.items input.old input.new text.old text.new) }
+{
+    let first = need_behind_blank(input, src)?;
+    if first == b'}' {
+        close_bracket(input, brackets);
+        return Ok(Event::ObjectEnd);
+    }
+    read_name(input, src, text, first)
+}
+
+/// Behind the name of a member.
+fn read_member_value<S: Source>(
+    input: &mut Input,
+    src: &mut S,
+    brackets: &mut Vec<Bracket>,
+    text: &mut Buffer,
+) -> Result<Event, JsonFault>
+    requires occurs { Occurs Phase.AfterName brackets.old.items }
+    requires few { length brackets.old.items ≤ 256 }
+    ensures moves { Moves (fault_of result)
+        (S.sure src.old) input.old (lent (S.left src.old) (S.written src.old) (S.place src.old) (S.faults src.old))
+        (S.sure src.new) input.new (lent (S.left src.new) (S.written src.new) (S.place src.new) (S.faults src.new)) }
+    ensures ok { IfOk result (λ e. IsStep (record { open_ = brackets.old.items; phase = Phase.AfterName }) e brackets.new.items input.old input.new text.old text.new) }
+{
+    let first = need_behind_blank(input, src)?;
+    if first != b':' {
+        return Err(input.wrong());
+    }
+    input.pass(1);
+    read_value(input, src, brackets, text)
+}
+
+/// Behind an item of an array.
+fn read_next_item<S: Source>(
+    input: &mut Input,
+    src: &mut S,
+    brackets: &mut Vec<Bracket>,
+    text: &mut Buffer,
+) -> Result<Event, JsonFault>
+    requires within { IsWithin Bracket.Array brackets.old.items }
+    requires few { length brackets.old.items ≤ 256 }
+    ensures moves { Moves (fault_of result)
+        (S.sure src.old) input.old (lent (S.left src.old) (S.written src.old) (S.place src.old) (S.faults src.old))
+        (S.sure src.new) input.new (lent (S.left src.new) (S.written src.new) (S.place src.new) (S.faults src.new)) }
+    ensures ok { IfOk result (λ e. IsStep (record { open_ = brackets.old.items; phase = Phase.AfterValue }) e brackets.new.items input.old input.new text.old text.new) }
+{
+    let first = need_behind_blank(input, src)?;
+    if first == b']' {
+        close_bracket(input, brackets);
+        return Ok(Event::ArrayEnd);
+    }
+    if first != b',' {
+        return Err(input.wrong());
+    }
+    input.pass(1);
+    read_value(input, src, brackets, text)
+}
+
+/// Behind a member of an object.
+fn read_next_member<S: Source>(
+    input: &mut Input,
+    src: &mut S,
+    brackets: &mut Vec<Bracket>,
+    text: &mut Buffer,
+) -> Result<Event, JsonFault>
+    requires within { IsWithin Bracket.Object brackets.old.items }
+    requires few { length brackets.old.items ≤ 256 }
+    ensures moves { Moves (fault_of result)
+        (S.sure src.old) input.old (lent (S.left src.old) (S.written src.old) (S.place src.old) (S.faults src.old))
+        (S.sure src.new) input.new (lent (S.left src.new) (S.written src.new) (S.place src.new) (S.faults src.new)) }
+    ensures ok { IfOk result (λ e. IsStep (record { open_ = brackets.old.items; phase = Phase.AfterValue }) e brackets.new.items input.old input.new text.old text.new) }
+{
+    let first = need_behind_blank(input, src)?;
+    if first == b'}' {
+        close_bracket(input, brackets);
+        return Ok(Event::ObjectEnd);
+    }
+    if first != b',' {
+        return Err(input.wrong());
+    }
+    input.pass(1);
+    let quote = need_behind_blank(input, src)?;
+    read_name(input, src, text, quote)
+}
+
+/// Behind the text's one value.
+fn read_end<S: Source>(input: &mut Input, src: &mut S) -> Result<Event, JsonFault>
+    ensures moves { Moves (fault_of result)
+        (S.sure src.old) input.old (lent (S.left src.old) (S.written src.old) (S.place src.old) (S.faults src.old))
+        (S.sure src.new) input.new (lent (S.left src.new) (S.written src.new) (S.place src.new) (S.faults src.new)) }
+    ensures ok { IfOk result (λ e. e ≡ Event.End) }
+{
+    match skip_blank(input, src)? {
+        None => Ok(Event::End),
+        Some(_) => Err(input.wrong()),
+    }
+}
+
+/// Behind a value.
+fn read_behind_value<S: Source>(
+    input: &mut Input,
+    src: &mut S,
+    brackets: &mut Vec<Bracket>,
+    text: &mut Buffer,
+) -> Result<Event, JsonFault>
+    requires few { length brackets.old.items ≤ 256 }
+    ensures moves { Moves (fault_of result)
+        (S.sure src.old) input.old (lent (S.left src.old) (S.written src.old) (S.place src.old) (S.faults src.old))
+        (S.sure src.new) input.new (lent (S.left src.new) (S.written src.new) (S.place src.new) (S.faults src.new)) }
+    ensures ok { IfOk result (λ e. IsStep (record { open_ = brackets.old.items; phase = Phase.AfterValue }) e brackets.new.items input.old input.new text.old text.new) }
+{
+    match brackets.last() {
+        None => read_end(input, src),
+        Some(Bracket::Array) => read_next_item(input, src, brackets, text),
+        Some(Bracket::Object) => read_next_member(input, src, brackets, text),
+    }
+}
+
+/// The next event, where the brackets are open and the phase says what may come.
+pub fn read_event<S: Source>(
+    input: &mut Input,
+    src: &mut S,
+    brackets: &mut Vec<Bracket>,
+    phase: Phase,
+    text: &mut Buffer,
+) -> Result<Event, JsonFault>
+    requires occurs { Occurs phase brackets.old.items }
+    requires few { length brackets.old.items ≤ 256 }
+    ensures moves { Moves (fault_of result)
+        (S.sure src.old) input.old (lent (S.left src.old) (S.written src.old) (S.place src.old) (S.faults src.old))
+        (S.sure src.new) input.new (lent (S.left src.new) (S.written src.new) (S.place src.new) (S.faults src.new)) }
+    ensures ok { IfOk result (λ e. IsStep (record { open_ = brackets.old.items; phase = phase }) e brackets.new.items input.old input.new text.old text.new) }
+{
+    match phase {
+        Phase::Start => read_start(input, src, brackets, text),
+        Phase::FirstItem => read_first_item(input, src, brackets, text),
+        Phase::FirstMember => read_first_member(input, src, brackets, text),
+        Phase::AfterName => read_member_value(input, src, brackets, text),
+        Phase::AfterValue => read_behind_value(input, src, brackets, text),
+    }
+}

@@ -1,0 +1,80 @@
+// White space, words and the byte order mark.
+ghost use Rattle.std.specs.Prelude.{◌≡◌, ◌+◌, false, length, IfOk, IfSome, OnOk};
+ghost use Rattle.prof_json.specs.Ahead.{IsNext, IsShown};
+ghost use Rattle.prof_json.specs.Bytes.{is_space};
+ghost use Rattle.prof_json.specs.Moves.{Moves, lent, fault_of};
+
+use crate::JsonFault;
+use crate::input::Input;
+use crate::scan::{blank_len, is_blank};
+use prof_io::Source;
+
+/// Passes over white space, and shows the byte behind it.
+pub fn skip_blank<S: Source>(input: &mut Input, src: &mut S) -> Result<Option<u8>, JsonFault>
+    ensures moves { Moves (fault_of result)
+        (S.sure src.old) input.old (lent (S.left src.old) (S.written src.old) (S.place src.old) (S.faults src.old))
+        (S.sure src.new) input.new (lent (S.left src.new) (S.written src.new) (S.place src.new) (S.faults src.new)) }
+    ensures shown { IfOk result (λ o. IsShown o input.new (S.left src.new)) }
+    ensures behind { IfOk result (λ o. IfSome o (λ b. is_space b ≡ false)) }
+{
+    'blanks: loop {
+        let byte = match input.peek(src) {
+            Err(fault) => return Err(fault),
+            Ok(None) => return Ok(None),
+            Ok(Some(byte)) => byte,
+        };
+        if !is_blank(byte) {
+            return Ok(Some(byte));
+        }
+        let run = blank_len(input.ahead());
+        input.pass(run);
+    }
+}
+
+/// Passes over white space, and shows the byte behind it, where the text can't end.
+pub fn need_behind_blank<S: Source>(input: &mut Input, src: &mut S) -> Result<u8, JsonFault>
+    ensures moves { Moves (fault_of result)
+        (S.sure src.old) input.old (lent (S.left src.old) (S.written src.old) (S.place src.old) (S.faults src.old))
+        (S.sure src.new) input.new (lent (S.left src.new) (S.written src.new) (S.place src.new) (S.faults src.new)) }
+    ensures byte { IfOk result (λ b. IsNext b input.new) }
+    ensures behind { IfOk result (λ b. is_space b ≡ false) }
+{
+    match skip_blank(input, src) {
+        Err(fault) => Err(fault),
+        Ok(None) => Err(input.wrong()),
+        Ok(Some(byte)) => Ok(byte),
+    }
+}
+
+/// Passes over a fixed text.
+pub fn pass_word<S: Source>(input: &mut Input, src: &mut S, word: &[u8]) -> Result<(), JsonFault>
+    ensures moves { Moves (fault_of result)
+        (S.sure src.old) input.old (lent (S.left src.old) (S.written src.old) (S.place src.old) (S.faults src.old))
+        (S.sure src.new) input.new (lent (S.left src.new) (S.written src.new) (S.place src.new) (S.faults src.new)) }
+    ensures further { OnOk result (input.old.place + length word.now ≡ input.new.place) }
+{
+    for letter in word {
+        match input.need(src) {
+            Err(fault) => return Err(fault),
+            Ok(byte) => {
+                if byte != *letter {
+                    return Err(input.wrong());
+                }
+                input.pass(1);
+            }
+        }
+    }
+    Ok(())
+}
+
+/// Passes over a byte order mark, if there is one.
+pub fn pass_mark<S: Source>(input: &mut Input, src: &mut S) -> Result<(), JsonFault>
+    ensures moves { Moves (fault_of result)
+        (S.sure src.old) input.old (lent (S.left src.old) (S.written src.old) (S.place src.old) (S.faults src.old))
+        (S.sure src.new) input.new (lent (S.left src.new) (S.written src.new) (S.place src.new) (S.faults src.new)) }
+{
+    match input.peek(src)? {
+        Some(0xEF) => pass_word(input, src, b"\xEF\xBB\xBF"),
+        _ => Ok(()),
+    }
+}

@@ -1,0 +1,112 @@
+// Values.
+ghost use Rattle.std.specs.Prelude.{◌≡◌, ℕ, ◌<◌, ◌≤◌, ◌⊎◌, [], ◌∷◌, ◌++◌, length, IfOk, IfErr, OnOk};
+ghost use Rattle.prof_json.specs.Ahead.{IsNext, Passes};
+ghost use Rattle.prof_json.specs.Kept.{Adds};
+ghost use Rattle.prof_json.specs.Numbers.{IsNumeral};
+ghost use Rattle.prof_json.specs.Step.{BeginsValue};
+ghost use Rattle.prof_json.specs.Moves.{Moves, lent, fault_of};
+
+use crate::behind::may_follow;
+use crate::buffer::Buffer;
+use crate::input::Input;
+use crate::number::read_number;
+use crate::string::read_string;
+use crate::token::pass_word;
+use crate::{Bracket, Event, JsonFault};
+use prof_io::Source;
+
+/// How many brackets may be open at once.
+const MOST_DEEP: usize = 256;
+
+/// Opens the bracket that is shown.
+fn open_bracket(
+    input: &mut Input,
+    brackets: &mut Vec<Bracket>,
+    bracket: Bracket,
+) -> Result<(), JsonFault>
+    requires next { (b : ℕ) × IsNext b input.old }
+    requires few { length brackets.old.items ≤ 256 }
+    ensures ok { OnOk result ((Passes 1 input.old input.new) × (brackets.new.items ≡ brackets.old.items ++ bracket ∷ []) × (length brackets.new.items ≤ 256)) }
+    ensures err { IfErr result (λ fault. (input.new ≡ input.old) × ((fault ≡ JsonFault.NoMemory) ⊎ (fault ≡ JsonFault.TooDeep input.old.place))) }
+{
+    if brackets.len() == MOST_DEEP {
+        return Err(input.deep());
+    }
+    if let Err(_) = brackets.push(bracket) {
+        return Err(JsonFault::NoMemory);
+    }
+    input.pass(1);
+    Ok(())
+}
+
+/// Reads a number, whose first byte is shown, up to a byte that may stand behind it.
+fn read_whole_number<S: Source>(
+    input: &mut Input,
+    src: &mut S,
+    brackets: &[Bracket],
+    text: &mut Buffer,
+    first: u8,
+) -> Result<(), JsonFault>
+    requires { IsNext first input.old }
+    ensures moves { Moves (fault_of result)
+        (S.sure src.old) input.old (lent (S.left src.old) (S.written src.old) (S.place src.old) (S.faults src.old))
+        (S.sure src.new) input.new (lent (S.left src.new) (S.written src.new) (S.place src.new) (S.faults src.new)) }
+    ensures text { OnOk result (Adds IsNumeral text.old text.new) }
+    ensures further { OnOk result (input.old.place < input.new.place) }
+{
+    let behind = read_number(input, src, text, first)?;
+    if may_follow(brackets, behind) {
+        Ok(())
+    } else {
+        Err(input.wrong())
+    }
+}
+
+/// Begins the value whose first byte is shown, and reads it where it is no array and no object.
+pub fn begin_value<S: Source>(
+    input: &mut Input,
+    src: &mut S,
+    brackets: &mut Vec<Bracket>,
+    text: &mut Buffer,
+    first: u8,
+) -> Result<Event, JsonFault>
+    requires next { IsNext first input.old }
+    requires few { length brackets.old.items ≤ 256 }
+    ensures moves { Moves (fault_of result)
+        (S.sure src.old) input.old (lent (S.left src.old) (S.written src.old) (S.place src.old) (S.faults src.old))
+        (S.sure src.new) input.new (lent (S.left src.new) (S.written src.new) (S.place src.new) (S.faults src.new)) }
+    ensures ok { IfOk result (λ e. BeginsValue brackets.old.items e brackets.new.items input.old input.new text.old text.new) }
+{
+    match first {
+        b'[' => {
+            open_bracket(input, brackets, Bracket::Array)?;
+            Ok(Event::ArrayStart)
+        }
+        b'{' => {
+            open_bracket(input, brackets, Bracket::Object)?;
+            Ok(Event::ObjectStart)
+        }
+        b'"' => {
+            input.pass(1);
+            read_string(input, src, text)?;
+            Ok(Event::Str)
+        }
+        b't' => {
+            pass_word(input, src, b"true")?;
+            Ok(Event::True)
+        }
+        b'f' => {
+            pass_word(input, src, b"false")?;
+            Ok(Event::False)
+        }
+        b'n' => {
+            pass_word(input, src, b"null")?;
+            Ok(Event::Null)
+        }
+        b'-' | b'0'..=b'9' => {
+            read_whole_number(input, src, brackets, text, first)?;
+            Ok(Event::Number)
+        }
+        _ => Err(input.wrong()),
+    }
+}

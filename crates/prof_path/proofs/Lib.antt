@@ -1,0 +1,4 @@
+pub mod Places
+pub mod EndPlaces
+pub mod StepLaws
+pub mod Pieces

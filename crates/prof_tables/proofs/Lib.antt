@@ -1,0 +1,14 @@
+pub mod PathRows
+pub mod SumRange
+pub mod FirstRow
+pub mod Deltas
+pub mod RowLists
+pub mod ColumnFits
+pub mod Checked
+pub mod FrameRows
+pub mod SharedRows
+pub mod Ranges
+pub mod BuildLemmas
+pub mod Sampled
+pub mod OwnRows
+pub mod Entering

@@ -1,0 +1,46 @@
+-- What passed checks show of the columns.
+use Rattle.std.specs.Prelude.{◌≡◌, ℕ, suc, ◌<◌, ◌≤◌, List, Bool, true, Option, None, Some, IfSome, length}
+use Rattle.prof_tables.specs.declared.column.CellKind.TheVariants as kind
+use Rattle.prof_tables.specs.Cells.{Cells, SharedCells, OwnCells, cell}
+use Rattle.prof_tables.specs.Rules.{cell_rule, minus_or_index_rule, range_rule}
+use Rattle.prof_tables.specs.Checks.{resource_count}
+use Rattle.prof_tables.specs.Rows.{time_of, weight_in}
+
+pub record FitResources (raw : SharedCells) : Type 0 where
+  pub few : resource_count raw ≤ 1048576
+  pub name : (r : ℕ) → r < resource_count raw → cell_rule (kind.Index (length raw.strings)) 0 (cell raw.resource_name r) ≡ None
+
+pub record FitFuncs (raw : SharedCells) : Type 0 where
+  pub few : length raw.func_name.cells ≤ 1048576
+  pub name : (f : ℕ) → f < length raw.func_name.cells → cell_rule (kind.Index (length raw.strings)) 0 (cell raw.func_name f) ≡ None
+  pub resource : (f : ℕ) → f < length raw.func_name.cells → IfSome (cell raw.func_resource f) (λ n. minus_or_index_rule (resource_count raw) n ≡ None)
+  pub file : (f : ℕ) → f < length raw.func_name.cells → cell_rule (kind.MaybeIndex (length raw.strings)) 0 (cell raw.func_file_name f) ≡ None
+
+pub record FitFrames (categories : ℕ) (raw : SharedCells) : Type 0 where
+  pub few : length raw.frame_func.cells ≤ 4194304
+  pub func : (j : ℕ) → j < length raw.frame_func.cells → cell_rule (kind.Index (length raw.func_name.cells)) 0 (cell raw.frame_func j) ≡ None
+  pub category : (j : ℕ) → j < length raw.frame_func.cells → cell_rule (kind.MaybeIndex categories) 0 (cell raw.frame_category j) ≡ None
+
+pub record FitStacks (raw : SharedCells) : Type 0 where
+  pub few : length raw.stack_frame.cells ≤ 4194304
+  pub frame : (i : ℕ) → i < length raw.stack_frame.cells → cell_rule (kind.Index (length raw.frame_func.cells)) 0 (cell raw.stack_frame i) ≡ None
+  pub prefix : (i : ℕ) → i < length raw.stack_frame.cells → cell_rule kind.Prefix i (cell raw.stack_prefix i) ≡ None
+
+pub record FitShared (categories : ℕ) (raw : SharedCells) : Type 0 where
+  pub resources : FitResources raw
+  pub funcs : FitFuncs raw
+  pub frames : FitFrames categories raw
+  pub stacks : FitStacks raw
+
+pub record FitSamples (stacks : ℕ) (raw : OwnCells) : Type 0 where
+  pub few : length raw.sample_stack.cells ≤ 8388608
+  pub stack : (k : ℕ) → k < length raw.sample_stack.cells → cell_rule (kind.MaybeIndex stacks) 0 (cell raw.sample_stack k) ≡ None
+  pub time : (k : ℕ) → k < length raw.sample_stack.cells → range_rule (time_of raw.deltas raw.sample_time k) ≡ None
+  pub weight : (k : ℕ) → k < length raw.sample_stack.cells → range_rule (weight_in raw.sample_weight.state raw.sample_weight.cells k) ≡ None
+
+pub record FitMarkers (strings : ℕ) (raw : OwnCells) : Type 0 where
+  pub few : length raw.marker_phase.cells ≤ 4194304
+  pub phase : (m : ℕ) → m < length raw.marker_phase.cells → cell_rule kind.Phase 0 (cell raw.marker_phase m) ≡ None
+  pub name : (m : ℕ) → m < length raw.marker_phase.cells → cell_rule (kind.Index strings) 0 (cell raw.marker_name m) ≡ None
+  pub start : (m : ℕ) → m < length raw.marker_phase.cells → cell_rule kind.MaybeNumber 0 (cell raw.marker_start m) ≡ None
+  pub end : (m : ℕ) → m < length raw.marker_phase.cells → cell_rule kind.MaybeNumber 0 (cell raw.marker_end m) ≡ None

@@ -1,0 +1,14 @@
+pub mod Threads
+pub mod Paths
+pub mod Texts
+pub mod Frames
+pub mod Ties
+pub mod Cells
+pub mod Profiles
+pub mod Rules
+pub mod Moments
+pub mod Checks
+pub mod Rows
+pub mod Builds
+pub mod Fits
+pub mod Building

@@ -1,0 +1,66 @@
+-- What the numbers of a thread's rows keep: each is a place in the list that it speaks of.
+use Rattle.std.specs.Prelude.{◌≡◌, ℕ, ◌<◌, ◌≤◌, ◌+◌, ◌^◌, ℤ, pos, negsuc, ◌≤ℤ◌, List, length, Option, Some, IfSome, slice_get}
+use Rattle.std.specs.List.{All}
+use Rattle.prof_tables.specs.declared.rows.FrameRow.{FrameRow}
+use Rattle.prof_tables.specs.declared.rows.StackRow.{StackRow}
+use Rattle.prof_tables.specs.declared.rows.SampleRow.{SampleRow}
+use Rattle.prof_tables.specs.declared.markers.RawMarker.{RawMarker}
+use Rattle.prof_tables.specs.Threads.{Func, SharedTables, MarkerRows, ThreadTables}
+use Rattle.prof_tables.specs.Frames.{IsFrameOf}
+
+-- a function whose texts are places in the strings, and whose resource is in the table
+pub record IsFunc (strings resources : ℕ) (f : Func) : Type 0 where
+  pub name : f.name < strings
+  pub file : IfSome f.file (λ n. n < strings)
+  pub resource : IfSome f.resource (λ r. r < resources)
+
+pub record IsFrame (funcs categories : ℕ) (f : FrameRow) : Type 0 where
+  pub func : f.func < funcs
+  pub category : IfSome f.category (λ c. c < categories)
+
+pub record IsStackRow (funcs categories : ℕ) (s : StackRow) : Type 0 where
+  pub func : s.func < funcs
+  pub category : s.category < categories
+
+-- each number of the shared tables is in its range
+pub record AreTied (t : SharedTables) : Type 0 where
+  pub few : length t.funcs + length t.resources < 2 ^ 32
+  pub few_frames : length t.frames < 2 ^ 32
+  pub default : t.default < t.categories
+  pub resources : All (λ name. name < length t.strings) t.resources
+  pub funcs : All (IsFunc (length t.strings) (length t.resources)) t.funcs
+  pub frames : All (IsFrame (length t.funcs) t.categories) t.frames
+  pub stacks : All (IsStackRow (length t.funcs) t.categories) t.stacks
+
+-- the frames of the stack rows
+pub record AreFrames (t : SharedTables) (numbers : List ℕ) : Type 0 where
+  pub many : length numbers ≡ length t.stacks
+  pub frame : (i j : ℕ) → slice_get numbers i ≡ Some j → IsFrameOf t i j
+
+-- times and weights have at most this size
+abbrev pub InRange : ℤ → Type 0
+InRange n = (negsuc 8999999999999999999 ≤ℤ n) × (n ≤ℤ pos 9000000000000000000)
+
+-- a sample over so many stack rows
+pub record IsSample (stacks : ℕ) (s : SampleRow) : Type 0 where
+  pub stack : IfSome s.stack (λ i. i < stacks)
+  pub time : InRange s.time
+  pub weight : InRange s.weight
+
+-- a range of a list of so many items
+abbrev pub IsPart : ℕ → ℕ × ℕ → Type 0
+IsPart count part = (part.0 ≤ part.1) × (part.1 ≤ count)
+
+pub record IsMarker (strings text_count : ℕ) (m : RawMarker) : Type 0 where
+  pub name : m.name < strings
+  pub phase : m.phase < 4
+  pub start : IfSome m.start InRange
+  pub end : IfSome m.end InRange
+  pub texts : IsPart text_count m.texts
+
+-- a thread's own part over the tables that it stands on
+pub record AreOwn (t : ThreadTables) : Type 0 where
+  pub few_samples : length t.samples ≤ 8388608
+  pub samples : All (IsSample (length t.shared.stacks)) t.samples
+  pub few_markers : length t.markers.rows ≤ 4194304
+  pub markers : All (IsMarker (length t.shared.strings) (length t.markers.texts)) t.markers.rows

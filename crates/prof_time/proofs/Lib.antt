@@ -1,0 +1,10 @@
+pub mod Bridges
+pub mod Lists
+pub mod Values
+pub mod Meanings
+pub mod Nearest
+pub mod Readings
+pub mod Samples
+pub mod Scaling
+pub mod Spellings
+pub mod Wholes

@@ -1,0 +1,5 @@
+pub mod Numeral
+pub mod Parts
+pub mod Scaled
+pub mod Spelling
+pub mod TakenApart

@@ -1,0 +1,104 @@
+//! Numbers read from their texts.
+ghost use Rattle.std.specs.Prelude.{◌≡◌, ℕ, ℤ, ◌*◌, ◌^◌, ◌<◌, ◌≤◌, IfOk, OnErr, IfSome, OnSome, IfNone, IsTrue, ◌↔◌, unsigned_abs};
+ghost use Rattle.prof_time.specs.Numeral.{Numeral, IsNumber};
+ghost use Rattle.prof_time.specs.Scaled.{IsScaled, IsExact};
+
+use crate::decimal::Decimal;
+use thiserror::Error;
+
+/// The greatest size of a number of nanoseconds.
+const MOST: u128 = 9_000_000_000_000_000_000;
+
+/// The number of a text is out of range.
+#[derive(Clone, Copy, Debug, PartialEq, Eq, Error)]
+#[error("the number is out of range")]
+pub struct TimeRange;
+
+/// The whole number nearest to a number's value times ten to the power `decimals`, ties away from zero.
+///
+/// The text is that of a JSON number. It takes time linear in the text, however great the exponent is.
+pub fn read_scaled(text: &[u8], decimals: u32) -> Result<i64, TimeRange>
+    requires number { (m : Numeral) × IsNumber text.now m }
+    requires few { decimals ≤ 6 }
+    ensures nearest { IfOk result (λ n. IsScaled text.now decimals n) }
+    ensures within { IfOk result (λ n. unsigned_abs n ≤ 9 * 10 ^ 18) }
+    ensures range { OnErr result ((n : ℤ) × IsScaled text.now decimals n × (9 * 10 ^ 18 < unsigned_abs n)) }
+{
+    let number = Decimal::of(text);
+    let size = number.nearest(decimals);
+    if size > MOST {
+        return Err(TimeRange);
+    }
+    let size = size as i64;
+    Ok(if number.negative { -size } else { size })
+}
+
+/// A number's value, where it is whole and its size is at most 2^64 - 1.
+///
+/// The text is that of a JSON number.
+pub fn read_exact(text: &[u8]) -> Option<i128>
+    requires { (m : Numeral) × IsNumber text.now m }
+    ensures exact { IfSome result (λ n. IsExact text.now n) }
+    ensures within { IfSome result (λ n. unsigned_abs n < 2 ^ 64) }
+    ensures none { IfNone result ((n : ℤ) → IsExact text.now n → 2 ^ 64 ≤ unsigned_abs n) }
+{
+    let number = Decimal::of(text);
+    let size = number.whole_size()?;
+    if size > u128::from(u64::MAX) {
+        return None;
+    }
+    let size = size as i128;
+    Some(if number.negative { -size } else { size })
+}
+
+/// Whether a number's value is whole, of whatever size.
+///
+/// The text is that of a JSON number.
+pub fn is_whole(text: &[u8]) -> bool
+    requires { (m : Numeral) × IsNumber text.now m }
+    ensures { IsTrue result ↔ ((n : ℤ) × IsExact text.now n) }
+{
+    Decimal::of(text).whole_size().is_some()
+}
+
+#[cfg(test)]
+mod tests {
+    use super::*;
+
+    #[test]
+    fn rounds_to_the_nearest(rt: HostRuntime) {
+        assert_eq!(rt; read_scaled(b"1.0000005", 6), Ok(1_000_001));
+        assert_eq!(rt; read_scaled(b"-1.0000005", 6), Ok(-1_000_001));
+        assert_eq!(rt; read_scaled(b"1e-7", 6), Ok(0));
+        assert_eq!(rt; read_scaled(b"-1.50e+2", 1), Ok(-1500));
+    }
+
+    #[test]
+    fn ends_at_the_range(rt: HostRuntime) {
+        assert_eq!(rt;
+            read_scaled(b"9000000000000", 6),
+            Ok(9_000_000_000_000_000_000)
+        );
+        assert_eq!(rt; read_scaled(b"9000000000000.000001", 6), Err(TimeRange));
+    }
+
+    #[test]
+    fn reads_great_exponents(rt: HostRuntime) {
+        assert_eq!(rt; read_scaled(b"1e999999999", 0), Err(TimeRange));
+        assert_eq!(rt; read_scaled(b"0e999999999", 0), Ok(0));
+        assert_eq!(rt; read_scaled(b"1e-999999999", 0), Ok(0));
+    }
+
+    #[test]
+    fn tells_whole_numbers(rt: HostRuntime) {
+        assert_eq!(rt;
+            read_exact(b"18446744073709551615"),
+            Some(18_446_744_073_709_551_615)
+        );
+        assert_eq!(rt; read_exact(b"18446744073709551616"), None);
+        assert_eq!(rt; read_exact(b"-2.50e1"), Some(-25));
+        assert_eq!(rt; read_exact(b"1.5"), None);
+        assert!(rt; is_whole(b"1e30"));
+        assert!(rt; !is_whole(b"1.5"));
+    }
+}

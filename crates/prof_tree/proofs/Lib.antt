@@ -1,0 +1,13 @@
+pub mod Order
+pub mod NodeOrder
+pub mod Steps
+pub mod Kids
+pub mod PathSteps
+pub mod Walking
+pub mod Turns
+pub mod Weights
+pub mod Whole
+pub mod Law
+pub mod Balance
+pub mod Counting
+pub mod Known

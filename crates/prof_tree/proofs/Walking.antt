@@ -1,0 +1,160 @@
+-- The rows while paths are walked
+use Rattle.std.proofs.Common.{◌≡◌, ◌≢◌, ℕ, ◌+◌, ◌-◌, ◌<◌, true, false, cond, eqb, List, [], ◌∷◌, ◌++◌, length, Option, Some, None, ◌⊎◌, inl, inr, sym, ap, ◌∙◌, subst, refl, length-append, arith}
+use Rattle.std.specs.Ordering.{ordering_then, nat_cmp, is_eq}
+use Rattle.std.specs.declared.cmp.Ordering.{Ordering}
+use Rattle.std.specs.declared.cmp.Ordering.TheVariants.{Less, Equal, Greater}
+use Rattle.std.proofs.lemmas.List.{get_or_append_left}
+use Rattle.std.proofs.Math.Seq.{get_or-append_seam}
+use Rattle.std.proofs.lemmas.Bool.Decides.{nat_tests}
+use Rattle.std.proofs.lemmas.Cmp.{tied_itself, nat_cmp_total}
+use Rattle.std.proofs.lemmas.Map.Lookups.{exact_unsigned, exact_pairs}
+use Rattle.prof_tree.specs.declared.branch.Branch.{Branch}
+use Rattle.prof_tree.specs.Forest.{key, key_above, branch, no_branch, link}
+use Rattle.prof_tree.specs.Growing.{IsTable, pair_cmp}
+use Rattle.prof_tree.proofs.PathSteps.{same_number}
+
+same_pair : (p q : ℕ × ℕ) → pair_cmp p q ≡ Equal → p ≡ q
+same_pair = exact_pairs nat_cmp nat_cmp exact_unsigned exact_unsigned
+
+eq-Equal : (o : Ordering) → is_eq o ≡ true → o ≡ Equal
+eq-Equal Less h = cc
+eq-Equal Equal h = refl
+eq-Equal Greater h = cc
+
+pub snoc-not-nil : (u : List ℕ) (a : ℕ) → (u ++ a ∷ []) ≢ []
+snoc-not-nil [] a h = cc
+snoc-not-nil (b ∷ u) a h = cc
+
+pub snoc-front : (u v : List ℕ) (a b : ℕ) → (u ++ a ∷ []) ≡ (v ++ b ∷ []) → (u ≡ v) × (a ≡ b)
+snoc-front [] [] a b h = (refl, cc)
+snoc-front [] (d ∷ v) a b h = let e : [] ≡ v ++ b ∷ [] = cc in absurd (snoc-not-nil v b (sym e))
+snoc-front (c ∷ u) [] a b h = let e : u ++ a ∷ [] ≡ [] = cc in absurd (snoc-not-nil u a e)
+snoc-front (c ∷ u) (d ∷ v) a b h = let e : u ++ a ∷ [] ≡ v ++ b ∷ [] = cc in let k = snoc-front u v a b e in let f : u ≡ v = k.0 in (cc, k.1)
+
+pub long : (p : List ℕ) → p ≢ [] → 0 < length p
+long [] n = absurd (n refl)
+long (a ∷ p) n = omega arith
+
+-- rows and keys with one more
+pub at_left : (rows : List Branch) (b : Branch) (q : ℕ) → q < length rows → branch (rows ++ b ∷ []) q ≡ branch rows q
+at_left rows b q h = get_or_append_left rows (b ∷ []) no_branch q h
+
+pub at_last : (rows : List Branch) (b : Branch) → branch (rows ++ b ∷ []) (length rows) ≡ b
+at_last rows b = get_or-append_seam rows b [] no_branch
+
+pub key_left : (ks : List (List ℕ)) (k : List ℕ) (q : ℕ) → q < length ks → key (ks ++ k ∷ []) q ≡ key ks q
+key_left ks k q h = get_or_append_left ks (k ∷ []) [] q h
+
+pub key_last : (ks : List (List ℕ)) (k : List ℕ) → key (ks ++ k ∷ []) (length ks) ≡ k
+key_last ks k = get_or-append_seam ks k [] []
+
+above_left : (ks : List (List ℕ)) (k : List ℕ) (o : Option ℕ) → ((p : ℕ) → o ≡ Some p → p < length ks) → key_above (ks ++ k ∷ []) o ≡ key_above ks o
+above_left ks k None f = refl
+above_left ks k (Some p) f = key_left ks k p (f p refl)
+
+pub in_or_last : (q n : ℕ) → q < n + 1 → (q < n) ⊎ (q ≡ n)
+in_or_last q n h = elim (eqb q n) as (λ e. eqb q n ≡ e → (q < n) ⊎ (q ≡ n)) [ true ↦ λ e. inr (same_number q n e) | false ↦ λ e. (let d : q ≢ n = grind (arith, nat_tests) in inl (omega arith)) ] refl
+
+pub length-snoc : {X : Type 0} (xs : List X) (x : X) → length (xs ++ x ∷ []) ≡ length xs + 1
+length-snoc xs x = length-append xs (x ∷ [])
+
+-- the rows with a child that is new
+module _ (ks : List (List ℕ)) (rows : List Branch) (look look' : ℕ × ℕ → Option ℕ) (o : Option ℕ) (f : ℕ) (b : Branch) (t : IsTable ks rows look)
+    (in_o : (p : ℕ) → o ≡ Some p → p < length rows) (absent : look (link o, f) ≡ None) (at_o : b.parent ≡ o) (at_f : b.func ≡ f) (at_depth : b.depth ≡ length (key_above ks o))
+    (more : (q : ℕ × ℕ) → look' q ≡ cond (is_eq (pair_cmp (link o, f) q)) (Some (length rows)) (look q)) where
+  abbrev pub fresh : List ℕ
+  fresh = key_above ks o ++ f ∷ []
+
+  in_ks : (q : ℕ) → q < length rows → q < length ks
+  in_ks q h = subst (λ n. q < n) (sym t.len) h
+
+  o_in_ks : (p : ℕ) → o ≡ Some p → p < length ks
+  o_in_ks p e = in_ks p (in_o p e)
+
+  last_key : key (ks ++ fresh ∷ []) (length rows) ≡ fresh
+  last_key = ap (key (ks ++ fresh ∷ [])) (sym t.len) ∙ key_last ks fresh
+
+  -- a parent is told by its functions
+  same_above : (m o : Option ℕ) → ((p : ℕ) → m ≡ Some p → p < length rows) → ((p : ℕ) → o ≡ Some p → p < length rows) → key_above ks m ≡ key_above ks o → m ≡ o
+  same_above None None h k e = refl
+  same_above None (Some p) h k e = absurd (snoc-not-nil _ _ (sym (t.keys p (k p refl)) ∙ sym e))
+  same_above (Some p) None h k e = absurd (snoc-not-nil _ _ (sym (t.keys p (h p refl)) ∙ e))
+  same_above (Some p) (Some q) h k e = let s = t.apart p q (h p refl) (k q refl) e in cc
+
+  -- no row has the new key
+  pub no_key : (q : ℕ) → q < length rows → key ks q ≢ fresh
+  no_key q h e =
+      let k = snoc-front (key_above ks (branch rows q).parent) (key_above ks o) (branch rows q).func f (sym (t.keys q h) ∙ e) in
+      let m : (branch rows q).parent ≡ o = same_above (branch rows q).parent o (λ p. t.above q p h) in_o k.0 in
+      let found : look (link o, f) ≡ Some q = ap (λ n. look (link n, f)) (sym m) ∙ ap (λ n. look (link (branch rows q).parent, n)) (sym k.1) ∙ t.has q h in
+      let no : None ≡ Some q = sym absent ∙ found in
+      cc
+
+  pub IsTable-more : IsTable (ks ++ fresh ∷ []) (rows ++ b ∷ []) look'
+  IsTable-more = record {
+    len = length-snoc ks fresh ∙ ap (λ n. n + 1) t.len ∙ sym (length-snoc rows b);
+    keys = λ r h. elim (place r h) [
+      | inl l ↦ key_left ks fresh r (in_ks r l) ∙ t.keys r l ∙ ap (λ z. z ++ (branch rows r).func ∷ []) (sym (above_left ks fresh (branch rows r).parent (λ p e. in_ks p (t.above r p l e))))
+          ∙ ap (λ (b : Branch). key_above (ks ++ fresh ∷ []) b.parent ++ b.func ∷ []) (sym (at_left rows b r l))
+      | inr e ↦ subst (λ r. key (ks ++ fresh ∷ []) r ≡ key_above (ks ++ fresh ∷ []) (branch (rows ++ b ∷ []) r).parent ++ (branch (rows ++ b ∷ []) r).func ∷ []) (sym e)
+          (last_key ∙ ap (λ z. z ++ f ∷ []) (sym (above_left ks fresh o o_in_ks)) ∙ ap (λ z. key_above (ks ++ fresh ∷ []) z ++ f ∷ []) (sym at_o) ∙ ap (λ z. key_above (ks ++ fresh ∷ []) b.parent ++ z ∷ []) (sym at_f)
+          ∙ ap (λ (b' : Branch). key_above (ks ++ fresh ∷ []) b'.parent ++ b'.func ∷ []) (sym (at_last rows b)))
+    ];
+    above = λ r p h e. elim (place r h) [
+      | inl l ↦ wider p (t.above r p l (ap (λ (b : Branch). b.parent) (sym (at_left rows b r l)) ∙ e))
+      | inr s ↦ wider p (in_o p (sym at_o ∙ ap (λ (b : Branch). b.parent) (sym (at_last rows b)) ∙ ap (λ r. (branch (rows ++ b ∷ []) r).parent) (sym s) ∙ e))
+    ];
+    apart = λ q r h k e. elim (place q h) [
+      | inl l ↦ elim (place r k) [
+        | inl m ↦ t.apart q r l m (sym (key_left ks fresh q (in_ks q l)) ∙ e ∙ key_left ks fresh r (in_ks r m))
+        | inr s ↦ absurd (no_key q l (sym (key_left ks fresh q (in_ks q l)) ∙ e ∙ ap (key (ks ++ fresh ∷ [])) s ∙ last_key))
+      ]
+      | inr s ↦ elim (place r k) [
+        | inl m ↦ absurd (no_key r m (sym (key_left ks fresh r (in_ks r m)) ∙ sym e ∙ ap (key (ks ++ fresh ∷ [])) s ∙ last_key))
+        | inr u ↦ s ∙ sym u
+      ]
+    ];
+    depths = λ r h. elim (place r h) [
+      | inl l ↦ ap (λ (b : Branch). b.depth) (at_left rows b r l) ∙ t.depths r l ∙ ap (λ z. length z - 1) (sym (key_left ks fresh r (in_ks r l)))
+      | inr s ↦ subst (λ r. (branch (rows ++ b ∷ []) r).depth ≡ length (key (ks ++ fresh ∷ []) r) - 1) (sym s)
+          (ap (λ (b : Branch). b.depth) (at_last rows b) ∙ at_depth ∙ (let n = length-snoc (key_above ks o) f in omega arith) ∙ ap (λ z. length z - 1) (sym last_key))
+    ];
+    has = λ r h. elim (place r h) [
+      | inl l ↦ ap (λ (b : Branch). look' (link b.parent, b.func)) (at_left rows b r l) ∙ more (link (branch rows r).parent, (branch rows r).func)
+          ∙ ap (λ e. cond e (Some (length rows)) (look (link (branch rows r).parent, (branch rows r).func))) (other r l) ∙ t.has r l
+      | inr s ↦ subst (λ r. look' (link (branch (rows ++ b ∷ []) r).parent, (branch (rows ++ b ∷ []) r).func) ≡ Some r) (sym s)
+          (ap (λ (b : Branch). look' (link b.parent, b.func)) (at_last rows b) ∙ ap (λ z. look' (link z, b.func)) at_o ∙ ap (λ z. look' (link o, z)) at_f ∙ more (link o, f)
+          ∙ ap (λ e. cond e (Some (length rows)) (look (link o, f))) (ap is_eq (itself (link o, f))))
+    ];
+    finds = λ m g r e. elim (is_eq (pair_cmp (link o, f) (link m, g))) as (λ b'. is_eq (pair_cmp (link o, f) (link m, g)) ≡ b' → cond b' (Some (length rows)) (look (link m, g)) ≡ Some r → (r < length (rows ++ b ∷ [])) × ((branch (rows ++ b ∷ []) r).parent ≡ m) × ((branch (rows ++ b ∷ []) r).func ≡ g)) [
+      | true ↦ λ k e.
+          let s : length rows ≡ r = cc in
+          let pair = same_pair (link o, f) (link m, g) (eq-Equal _ k) in
+          let lo : link o ≡ link m = ap (λ (z : ℕ × ℕ). z.0) pair in
+          let lf : f ≡ g = ap (λ (z : ℕ × ℕ). z.1) pair in
+          subst (λ r. (r < length (rows ++ b ∷ [])) × ((branch (rows ++ b ∷ []) r).parent ≡ m) × ((branch (rows ++ b ∷ []) r).func ≡ g)) s
+          (omega (arith, length-snoc rows b), ap (λ (b : Branch). b.parent) (at_last rows b) ∙ at_o ∙ link_same o m lo, ap (λ (b : Branch). b.func) (at_last rows b) ∙ at_f ∙ lf)
+      | false ↦ λ k e. (let w = t.finds m g r e in (wider r w.0, ap (λ (b : Branch). b.parent) (at_left rows b r w.0) ∙ w.1, ap (λ (b : Branch). b.func) (at_left rows b r w.0) ∙ w.2))
+    ] refl (sym (more (link m, g)) ∙ e);
+  }
+    where
+      place : (r : ℕ) → r < length (rows ++ b ∷ []) → (r < length rows) ⊎ (r ≡ length rows)
+      place r h = in_or_last r (length rows) (subst (λ n. r < n) (length-snoc rows b) h)
+
+      wider : (p : ℕ) → p < length rows → p < length (rows ++ b ∷ [])
+      wider p h = omega (arith, length-snoc rows b)
+
+      itself : (q : ℕ × ℕ) → pair_cmp q q ≡ Equal
+      itself q = ap (λ e. ordering_then e (nat_cmp q.1 q.1)) (tied_itself nat_cmp_total q.0) ∙ tied_itself nat_cmp_total q.1
+
+      link_same : (o m : Option ℕ) → link o ≡ link m → o ≡ m
+      link_same None None h = refl
+      link_same None (Some p) h = absurd (omega arith)
+      link_same (Some p) None h = absurd (omega arith)
+      link_same (Some p) (Some q) h = let e : p ≡ q = omega arith in cc
+
+      other : (r : ℕ) → r < length rows → is_eq (pair_cmp (link o, f) (link (branch rows r).parent, (branch rows r).func)) ≡ false
+      other r l = elim (is_eq (pair_cmp (link o, f) (link (branch rows r).parent, (branch rows r).func))) as (λ e. is_eq (pair_cmp (link o, f) (link (branch rows r).parent, (branch rows r).func)) ≡ e → e ≡ false) [
+        | true ↦ λ k. (let pair = same_pair (link o, f) (link (branch rows r).parent, (branch rows r).func) (eq-Equal _ k) in let no : None ≡ Some r = sym absent ∙ ap look pair ∙ t.has r l in cc)
+        | false ↦ λ k. refl
+      ] refl

@@ -1,0 +1,6 @@
+pub mod Nodes
+pub mod Views
+pub mod Examples
+pub mod Forest
+pub mod Ranks
+pub mod Growing
