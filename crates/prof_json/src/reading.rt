@@ -1,5 +1,6 @@
 // The reader.
 ghost use Rattle.std.specs.Prelude.{◌≡◌, ◌≢◌, ℕ, ◌<◌, ◌≤◌, ◌⊎◌, List, [], length, take, Ok, Err, None, Some, IfOk, IfErr, IfSome, OnOk};
+ghost use Rattle.std.specs.Io.KnownBytes.{IsAtEnd};
 ghost use Rattle.prof_io.specs.Causes.{Rose};
 ghost use Rattle.prof_json.specs.Moves.{Moves, Reads, lent, fault_of};
 ghost use Rattle.prof_json.specs.Nest.{Occurs};
@@ -43,6 +44,7 @@ fn skip_events<S: Source>(
         (S.sure src.old) input.old (lent (S.left src.old) (S.written src.old) (S.place src.old) (S.faults src.old))
         (S.sure src.new) input.new (lent (S.left src.new) (S.written src.new) (S.place src.new) (S.faults src.new)) }
     ensures closed { OnOk result (brackets.new.items ≡ take opened brackets.old.items) }
+    ensures further { OnOk result (input.old.place < input.new.place) }
 {
     let mut phase = begun;
     'events: loop {
@@ -139,6 +141,9 @@ impl Reader {
         ensures read { Reads self.old.ahead self.old.place (S.left src.old) self.new.ahead self.new.place (S.left src.new) }
         ensures near { length self.new.ahead ≤ 65536 }
         ensures limit { self.new.limit ≡ self.old.limit }
+        ensures within { self.new.place ≤ self.new.limit }
+        ensures further { IfOk result (λ e. e ≢ Event.End → self.old.place < self.new.place) }
+        ensures end { result ≡ Ok Event.End → IsAtEnd (S.left src.new) }
         ensures at { IfErr result (λ fault. self.old.fault ≡ None → StandsAt fault self.new) }
 
         // What the source tells besides stays. Its count rises where it fails.
@@ -189,6 +194,8 @@ impl Reader {
         ensures read { Reads self.old.ahead self.old.place (S.left src.old) self.new.ahead self.new.place (S.left src.new) }
         ensures near { length self.new.ahead ≤ 65536 }
         ensures limit { self.new.limit ≡ self.old.limit }
+        ensures within { self.new.place ≤ self.new.limit }
+        ensures further { OnOk result (self.old.place < self.new.place) }
         ensures at { IfErr result (λ fault. self.old.fault ≡ None → StandsAt fault self.new) }
 
         // What the source tells besides stays. Its count rises where it fails.

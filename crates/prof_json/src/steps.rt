@@ -1,5 +1,6 @@
 // The next event, by what may come.
-ghost use Rattle.std.specs.Prelude.{◌≡◌, ℕ, ◌<◌, ◌≤◌, List, [], ◌∷◌, ◌++◌, length, IfOk};
+ghost use Rattle.std.specs.Prelude.{◌≡◌, ℕ, ◌<◌, ◌≤◌, List, [], ◌∷◌, ◌++◌, length, IfOk, OnOk, Ok};
+ghost use Rattle.std.specs.Io.KnownBytes.{IsAtEnd};
 ghost use Rattle.prof_json.specs.Ahead.{IsNext, Passes};
 ghost use Rattle.prof_json.specs.Nest.{Occurs, IsWithin};
 ghost use Rattle.prof_json.specs.Step.{BeginsValue, IsStep};
@@ -204,6 +205,7 @@ fn read_end<S: Source>(input: &mut Input, src: &mut S) -> Result<Event, JsonFaul
         (S.sure src.old) input.old (lent (S.left src.old) (S.written src.old) (S.place src.old) (S.faults src.old))
         (S.sure src.new) input.new (lent (S.left src.new) (S.written src.new) (S.place src.new) (S.faults src.new)) }
     ensures ok { IfOk result (λ e. e ≡ Event.End) }
+    ensures end { OnOk result (IsAtEnd (S.left src.new)) }
 {
     match skip_blank(input, src)? {
         None => Ok(Event::End),
@@ -223,6 +225,7 @@ fn read_behind_value<S: Source>(
         (S.sure src.old) input.old (lent (S.left src.old) (S.written src.old) (S.place src.old) (S.faults src.old))
         (S.sure src.new) input.new (lent (S.left src.new) (S.written src.new) (S.place src.new) (S.faults src.new)) }
     ensures ok { IfOk result (λ e. IsStep (record { open_ = brackets.old.items; phase = Phase.AfterValue }) e brackets.new.items input.old input.new text.old text.new) }
+    ensures end { result ≡ Ok Event.End → IsAtEnd (S.left src.new) }
 {
     match brackets.last() {
         None => read_end(input, src),
@@ -245,6 +248,7 @@ pub fn read_event<S: Source>(
         (S.sure src.old) input.old (lent (S.left src.old) (S.written src.old) (S.place src.old) (S.faults src.old))
         (S.sure src.new) input.new (lent (S.left src.new) (S.written src.new) (S.place src.new) (S.faults src.new)) }
     ensures ok { IfOk result (λ e. IsStep (record { open_ = brackets.old.items; phase = phase }) e brackets.new.items input.old input.new text.old text.new) }
+    ensures end { result ≡ Ok Event.End → IsAtEnd (S.left src.new) }
 {
     match phase {
         Phase::Start => read_start(input, src, brackets, text),

@@ -41,3 +41,10 @@ events-preserved g c =
       within = s.1;
       inside = inl deeper;
     }
+
+pub returns-then-len-opened-clause-further : goal.returns-then-len-opened-clause-further
+returns-then-len-opened-clause-further g c =
+    let inv = c.events.invariant in
+    let more = c.in-Ok.ensures.ok.further (no_end c.in-Ok.ensures.ok.leads c.args.opened inv.inside) in
+    let on = inv.moves.on in
+    omega arith
