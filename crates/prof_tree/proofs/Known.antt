@@ -1,5 +1,5 @@
 -- The functions of the nodes are functions of the paths
-use Rattle.std.proofs.Common.{◌≡◌, ℕ, ◌-◌, ◌<◌, ℤ, List, [], ◌∷◌, ◌++◌, length, map, arith}
+use Rattle.std.proofs.Common.{ℕ, ◌-◌, ◌<◌, List, [], ◌∷◌, length, map, arith}
 use Rattle.std.specs.List.{All, flat_map}
 use Rattle.std.specs.Ordering.{match_ordering}
 use Rattle.std.specs.declared.cmp.Ordering.{Ordering}
@@ -7,7 +7,7 @@ use Rattle.std.specs.declared.cmp.Ordering.TheVariants.{Less, Equal, Greater}
 use Rattle.std.proofs.lemmas.List.Elements.{All-nil, All-cons, All-head, All-tail, All-map, All-append, All-weaker}
 use Rattle.prof_tables.specs.declared.rows.Step.{Step}
 use Rattle.prof_tree.specs.declared.node.Node.{Node}
-use Rattle.prof_tree.specs.Nodes.{Weighed, list_of, node_at, node_cmp, insert_once, in_order, prefixes, keys_of, nodes_of, weighed}
+use Rattle.prof_tree.specs.Nodes.{Weighed, list_of, node_at, node_cmp, insert_once, in_order, prefixes, keys_of, nodes_of}
 
 -- functions, with a first one, each below the count
 pub record IsKnown (count : ℕ) (p : List ℕ) : Type 0 where

@@ -11,3 +11,4 @@ pub mod Law
 pub mod Balance
 pub mod Counting
 pub mod Known
+pub mod Adding

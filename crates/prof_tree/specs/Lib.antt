@@ -4,3 +4,4 @@ pub mod Examples
 pub mod Forest
 pub mod Ranks
 pub mod Growing
+pub mod Building

@@ -86,8 +86,8 @@ fn add_end(rows: &mut Vec<Branch>, row: usize, weight: i64)
     branch.own += i128::from(weight);
 }
 
-// Walks one path into the rows, from an end on.
-fn walk(
+/// Walks one path into the rows, from an end on.
+pub fn walk(
     rows: &mut Vec<Branch>,
     index: &mut BTreeMap<(usize, u32), usize>,
     path: &[Step],
@@ -110,22 +110,6 @@ fn walk(
         add_end(rows, row, weight);
     }
     Ok(())
-}
-
-/// The rows of the tree of the paths: its nodes, each once, with what is known of them.
-pub fn grown(alloc: Global, paths: &[StepList], weights: &[i64]) -> Result<Vec<Branch>, AllocError>
-    requires lengths { length weights.now ≡ length paths.now }
-    requires few { length paths.now ≤ 8388608 }
-    requires short { All (λ (x : List Step). length x < 2 ^ 32) paths.now }
-    ensures { IfOk result (λ rows. (ks : List (List ℕ)) × (look : (ℕ × ℕ → Option ℕ)) × IsGrown (weighed paths.now weights.now) ks rows.items look) }
-{
-    let mut rows = Vec::new(alloc);
-    let mut index = BTreeMap::new(alloc);
-    for (place, path) in paths.iter().enumerate() {
-        let weight = weights[place];
-        walk(&mut rows, &mut index, path.as_slice(), End::Root, weight)?;
-    }
-    Ok(rows)
 }
 
 /// The rows of the tree of the reversed paths. It stops as soon as they are more than an inverted tree may have.
@@ -159,7 +143,7 @@ pub fn grown_backward(
     Ok(rows)
 }
 
-fn plus(sum: i128, weight: i64) -> i128
+pub fn plus(sum: i128, weight: i64) -> i128
     requires { FitsSigned w128 (sum +ℤ weight) }
     ensures { result ≡ sum +ℤ weight }
 {

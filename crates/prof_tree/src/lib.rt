@@ -3,11 +3,13 @@
 #![tactic(auto)]
 
 mod branch;
+mod builder;
 mod finishing;
 mod growing;
 mod listing;
 mod node;
 mod tree;
 
+pub use builder::TreeBuilder;
 pub use node::{InvertRefusal, Node, Tree};
 pub use tree::{of_paths, of_reversed};

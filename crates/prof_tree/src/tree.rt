@@ -3,8 +3,9 @@ ghost use Rattle.std.specs.Prelude.{◌≡◌, ◌^◌, ◌<◌, ◌≤◌, ◌+
 ghost use Rattle.prof_tables.specs.declared.rows.Step.{Step};
 ghost use Rattle.prof_tree.specs.Nodes.{weighed, nodes_of, node_at, AreKeys, total, dropped_of, root_total, own_total, reversed, inverted_of, inverted_at, node_limit};
 
+use crate::builder::TreeBuilder;
 use crate::finishing::{finish, weigh_roots};
-use crate::growing::{grown, grown_backward, sums};
+use crate::growing::{grown_backward, sums};
 use crate::node::{InvertRefusal, Tree};
 use prof_io::NoMemory;
 use prof_path::StepList;
@@ -33,14 +34,12 @@ pub fn of_paths(
     ensures roots { IfOk result (λ tree. root_total tree.nodes.items +ℤ tree.dropped ≡ tree.selected) }
     ensures selves { IfOk result (λ tree. own_total tree.nodes.items +ℤ tree.dropped ≡ tree.selected) }
 {
-    let rows = grown(alloc, paths, weights)?;
-    let nodes = finish(alloc, &rows, default)?;
-    let (selected, dropped) = sums(paths, weights);
-    Ok(Tree {
-        nodes,
-        selected,
-        dropped,
-    })
+    let mut builder = TreeBuilder::new(alloc);
+    for (place, path) in paths.iter().enumerate() {
+        builder.add(path.as_slice(), weights[place])?;
+    }
+    let tree = builder.finish(alloc, default)?;
+    Ok(tree)
 }
 
 /// The inverted call tree of the paths: the tree of the reversed paths, in which each root's self weight is its total

@@ -1,0 +1,5 @@
+pub mod Parts
+pub mod Quoting
+pub mod Fresh
+pub mod Rows
+pub mod OwnTree

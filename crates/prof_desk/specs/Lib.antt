@@ -1,0 +1,10 @@
+pub mod Breaks
+pub mod Lines
+pub mod Output
+pub mod Own
+pub mod Playing
+pub mod Quoted
+pub mod Replies
+pub mod Telling
+pub mod Words
+pub mod Writing

@@ -1,0 +1,130 @@
+// The answers to requests, and their texts.
+ghost use Rattle.std.specs.Prelude.{◌≡◌, ◌+◌, ◌<◌, ◌≤◌, length, option_copied, codes, ◌++◌};
+ghost use Rattle.std.specs.List.{flat_map};
+ghost use Rattle.std.specs.Fmt.{decimal};
+ghost use Rattle.prof_desk.specs.Lines.{tree_head};
+ghost use Rattle.prof_desk.specs.Replies.{CanTell, HasFuncs, node_line, refusal_text, reply_bytes, tree_text, unit_text};
+ghost use Rattle.prof_desk.specs.Telling.{line};
+ghost use Rattle.prof_desk.specs.Writing.{Writes};
+
+use crate::lines::{Line, node_head, push_number, tree_head};
+use crate::quoted::write_quoted;
+use crate::telling::put;
+use arrayvec::ArrayString;
+use prof_io::{OutFault, Sink};
+use prof_tables::{Thread, Unit};
+use prof_tree::{Node, Tree};
+
+/// Why a request was refused, with the value that its text gives.
+#[derive(Clone, Copy, Debug, PartialEq, Eq)]
+pub enum Refusal {
+    /// No session has that name.
+    NoSession,
+    /// The profile has only so many threads.
+    NoThread { threads: u32 },
+}
+
+/// The answer to a request.
+#[derive(Drop)]
+pub enum Reply {
+    /// It was done, and the session has this version.
+    Done { version: u32 },
+    /// A plain tree.
+    Tree(Tree),
+    Refused(Refusal),
+}
+
+fn unit_text(unit: Unit) -> &'static str
+    ensures name { result.now ≡ unit_text unit }
+    ensures short { length result.now ≤ 7 }
+{
+    match unit {
+        Unit::Samples => "samples",
+        Unit::Bytes => "bytes",
+        Unit::Ns => "ns",
+    }
+}
+
+/// Writes a node's line.
+fn write_node<S: Sink>(out: &mut S, thread: &Thread, node: Node) -> Result<(), OutFault>
+    requires { node.func < length thread.now.shared.funcs + length thread.now.shared.resources }
+    ensures { Writes (S.written out.old) (S.written out.new) (S.room out.old) (S.room out.new) (S.faults out.old) (S.faults out.new)
+        result (node_line thread.now.shared node) }
+{
+    put(out, node_head(node).as_str().as_bytes())?;
+    write_quoted(out, thread.func_name(node.func))?;
+    put(out, b"\n")
+}
+
+/// Writes the lines of nodes.
+fn write_nodes<S: Sink>(out: &mut S, thread: &Thread, nodes: &[Node]) -> Result<(), OutFault>
+    requires { HasFuncs thread.now nodes.now }
+    ensures { Writes (S.written out.old) (S.written out.new) (S.room out.old) (S.room out.new) (S.faults out.old) (S.faults out.new)
+        result (flat_map (node_line thread.now.shared) nodes.now) }
+{
+    for node in nodes {
+        write_node(out, thread, *node)?;
+    }
+    Ok(())
+}
+
+/// The first line of a plain tree.
+fn plain_head(thread: &Thread, tree: &Tree) -> Line
+    ensures { result.bytes ≡ tree_head (codes "plain") (unit_text thread.now.unit) (length tree.now.nodes.items) tree.now.selected tree.now.dropped }
+{
+    let unit = unit_text(thread.unit());
+    tree_head("plain", unit, tree.nodes.len(), tree.selected, tree.dropped)
+}
+
+/// Writes a plain tree.
+fn write_tree<S: Sink>(out: &mut S, thread: &Thread, tree: &Tree) -> Result<(), OutFault>
+    requires { HasFuncs thread.now tree.now.nodes.items }
+    ensures { Writes (S.written out.old) (S.written out.new) (S.room out.old) (S.room out.new) (S.faults out.old) (S.faults out.new)
+        result (tree_text thread.now tree.now.nodes.items tree.now.selected tree.now.dropped) }
+{
+    put(out, plain_head(thread, tree).as_str().as_bytes())?;
+    write_nodes(out, thread, &tree.nodes)
+}
+
+fn done_text(version: u32) -> Line
+    ensures { result.bytes ≡ line (codes "ok " ++ decimal version) }
+{
+    let mut text = ArrayString::new();
+    text.push_str("ok ");
+    push_number(&mut text, version, "\n");
+    text
+}
+
+fn refusal_text(refusal: Refusal) -> Line
+    ensures { result.bytes ≡ line (refusal_text refusal) }
+{
+    let mut text = ArrayString::new();
+    match refusal {
+        Refusal::NoSession => text.push_str("refused S1 NoSession\n"),
+        Refusal::NoThread { threads } => {
+            text.push_str("refused S4 NoThread ");
+            push_number(&mut text, threads, "\n");
+        }
+    }
+    text
+}
+
+/// Writes a reply's text, where the thread is that of the session's present view.
+pub fn reply_text<S: Sink>(
+    thread: Option<&Thread>,
+    reply: &Reply,
+    out: &mut S,
+) -> Result<(), OutFault>
+    requires { CanTell (option_copied thread) reply.now }
+    ensures { Writes (S.written out.old) (S.written out.new) (S.room out.old) (S.room out.new) (S.faults out.old) (S.faults out.new)
+        result (reply_bytes (option_copied thread.entry) reply.now) }
+{
+    match reply {
+        Reply::Done { version } => put(out, done_text(*version).as_str().as_bytes()),
+        Reply::Refused(refusal) => put(out, refusal_text(*refusal).as_str().as_bytes()),
+        Reply::Tree(tree) => match thread {
+            Some(thread) => write_tree(out, thread, tree),
+            None => unreachable!(),
+        },
+    }
+}

@@ -1,0 +1,126 @@
+//! Columns, gathered out of members' values.
+ghost use Rattle.std.specs.Prelude.{◌≡◌, ◌≤◌, OnOk, IfErr};
+ghost use Rattle.prof_read.specs.Feeding.{IsWithin, IsBegun, Passes, Finishes, Refuses, in_member};
+
+use crate::ReadRefusal;
+use crate::cells::{Cell, Reading, cell};
+use crate::feed::Feed;
+use crate::hashed::Start;
+use crate::objects::{FromItems, Kind, array, skip_behind};
+use prof_io::{NoMemory, Source};
+use prof_json::Event;
+use prof_tables::{BadCell, RawColumn, State, TableLength};
+use prof_time::read_exact;
+use std::alloc::Global;
+
+/// The most rows of the tables of functions and of resources.
+pub const MOST_FUNCS: u32 = 1 << 20;
+
+/// The most rows of the lists of strings and of the tables of frames, of stacks and of markers.
+pub const MOST_ROWS: u32 = 1 << 22;
+
+/// The most samples of a thread.
+pub const MOST_SAMPLES: u32 = 1 << 23;
+
+/// A column without cells.
+pub fn empty_column(alloc: Global, state: State) -> RawColumn {
+    RawColumn {
+        state,
+        values: Vec::new(alloc),
+        bad: None,
+    }
+}
+
+/// Adds a cell, unless the column has more than the most rows already.
+pub fn add_cell(column: &mut RawColumn, most: u32, cell: Cell) -> Result<(), NoMemory> {
+    if column.values.len() > most as usize {
+        return Ok(());
+    }
+    match cell {
+        Ok(value) => column.values.push(value)?,
+        Err(rule) => {
+            if column.bad.is_none() {
+                let row = column.values.len() as u32;
+                column.bad = Some(BadCell { row, rule });
+            }
+            column.values.push(None)?;
+        }
+    }
+    Ok(())
+}
+
+/// The state of a column by its member's value. An optional column that is null counts as absent.
+pub fn state_of(kind: Kind, needed: bool) -> State {
+    match kind {
+        Kind::Array => State::Array,
+        Kind::Null if !needed => State::Absent,
+        Kind::Null | Kind::Other => State::NotArray,
+    }
+}
+
+/// A column that is gathered.
+#[derive(Drop)]
+struct Gathered {
+    column: RawColumn,
+    reading: Reading,
+    most: u32,
+}
+
+impl FromItems for Gathered {
+    fn take_item<R: Source, W: Start>(
+        &mut self,
+        alloc: Global,
+        feed: &mut Feed<R, W>,
+        first: Event,
+    ) -> Result<(), ReadRefusal> {
+        let cell = cell(feed, self.reading, first);
+        skip_behind(alloc, feed, first)?;
+        add_cell(&mut self.column, self.most, cell)?;
+        Ok(())
+    }
+}
+
+/// Reads a member's value as a column, of which at most one cell more than `most` is kept.
+pub fn column<R: Source, W: Start>(
+    alloc: Global,
+    feed: &mut Feed<R, W>,
+    reading: Reading,
+    needed: bool,
+    most: u32,
+) -> Result<RawColumn, ReadRefusal>
+    requires { IsWithin in_member feed.old }
+    ensures ok { OnOk result (Passes feed.old feed.new) }
+    ensures err { IfErr result (λ r. Refuses r feed.new) }
+{
+    let mut gathered = Gathered {
+        column: empty_column(alloc, State::Array),
+        reading,
+        most,
+    };
+    let kind = array(alloc, feed, &mut gathered)?;
+    let Gathered { mut column, .. } = gathered;
+    column.state = state_of(kind, needed);
+    Ok(column)
+}
+
+/// Reads a member's value as the length of a table.
+pub fn table_length<R: Source, W: Start>(
+    alloc: Global,
+    feed: &mut Feed<R, W>,
+) -> Result<TableLength, ReadRefusal>
+    requires { IsWithin in_member feed.old }
+    ensures ok { OnOk result (Passes feed.old feed.new) }
+    ensures err { IfErr result (λ r. Refuses r feed.new) }
+{
+    let first = feed.next(alloc)?;
+    match first {
+        Event::Number => match read_exact(feed.number_text()) {
+            Some(n) => Ok(TableLength::Whole(n)),
+            None => Ok(TableLength::Other),
+        },
+        _ => {
+            skip_behind(alloc, feed, first)?;
+            Ok(TableLength::Unsaid)
+        }
+    }
+}

@@ -1,0 +1,251 @@
+//! Raw tables of what was gathered.
+ghost use Rattle.std.specs.Prelude.{IfOk, length};
+ghost use Rattle.prof_read.specs.Ranges.{AreRanges};
+
+use crate::columns::empty_column;
+use crate::markers::{MarkerData, MarkerTable};
+use crate::objects::{Found, FromMembers};
+use crate::samples::{SampleTable, Weights};
+use crate::shared::{FrameTable, FuncTable, ResourceTable, SharedTables, StackTable};
+use crate::texts::TextList;
+use crate::threads::ThreadParts;
+use prof_io::{NoMemory, Text};
+use prof_tables::{ListFault, RawColumn, RawShared, RawThread, State, Strings, Unit};
+use std::alloc::Global;
+use std::rc::Rc;
+
+/// The columns of a table: none where it is absent, and where it is no object its first column says so.
+fn resource_columns(alloc: Global, table: Found<ResourceTable>) -> (bool, ResourceTable) {
+    match table {
+        Found::Object(table) => (true, table),
+        Found::Absent | Found::Null => (false, ResourceTable::none(alloc)),
+        Found::Other => {
+            let mut table = ResourceTable::none(alloc);
+            table.name = empty_column(alloc, State::NotArray);
+            (true, table)
+        }
+    }
+}
+
+fn func_columns(alloc: Global, table: Found<FuncTable>) -> FuncTable {
+    match table {
+        Found::Object(table) => table,
+        Found::Absent => FuncTable::none(alloc),
+        Found::Null | Found::Other => {
+            let mut table = FuncTable::none(alloc);
+            table.name = empty_column(alloc, State::NotArray);
+            table
+        }
+    }
+}
+
+fn frame_columns(alloc: Global, table: Found<FrameTable>) -> FrameTable {
+    match table {
+        Found::Object(table) => table,
+        Found::Absent => FrameTable::none(alloc),
+        Found::Null | Found::Other => {
+            let mut table = FrameTable::none(alloc);
+            table.func = empty_column(alloc, State::NotArray);
+            table
+        }
+    }
+}
+
+fn stack_columns(alloc: Global, table: Found<StackTable>) -> StackTable {
+    match table {
+        Found::Object(table) => table,
+        Found::Absent => StackTable::none(alloc),
+        Found::Null | Found::Other => {
+            let mut table = StackTable::none(alloc);
+            table.frame = empty_column(alloc, State::NotArray);
+            table
+        }
+    }
+}
+
+fn sample_columns(alloc: Global, table: Found<SampleTable>) -> SampleTable {
+    match table {
+        Found::Object(table) => table,
+        Found::Absent => SampleTable::none(alloc),
+        Found::Null | Found::Other => {
+            let mut table = SampleTable::none(alloc);
+            table.stack = empty_column(alloc, State::NotArray);
+            table
+        }
+    }
+}
+
+/// The columns of the markers, and whether there are any.
+fn marker_columns(alloc: Global, table: Found<MarkerTable>) -> (bool, MarkerTable) {
+    match table {
+        Found::Object(table) => {
+            let there = table.phase.state != State::Absent;
+            (there, table)
+        }
+        Found::Absent | Found::Null | Found::Other => (false, MarkerTable::none(alloc)),
+    }
+}
+
+/// The times of the samples, and whether they are deltas: where both are there the times count.
+fn time_column(time: RawColumn, deltas: RawColumn) -> (RawColumn, bool) {
+    if time.state == State::Absent && deltas.state != State::Absent {
+        (deltas, true)
+    } else {
+        (time, false)
+    }
+}
+
+fn weight_column(weights: Weights, unit: Option<Unit>) -> RawColumn {
+    let Weights { counts, times } = weights;
+    match unit {
+        Some(Unit::Ns) => times,
+        Some(Unit::Samples) | Some(Unit::Bytes) | None => counts,
+    }
+}
+
+/// A list of strings, and the first rule that it breaks.
+#[derive(Drop)]
+pub struct HeldStrings {
+    pub strings: Rc<Strings>,
+    pub fault: Option<ListFault>,
+}
+
+pub fn held_strings(alloc: Global, list: TextList) -> Result<HeldStrings, NoMemory> {
+    let fault = list.fault();
+    let TextList { texts, .. } = list;
+    let strings = Strings::of(alloc, texts)?;
+    let strings = Rc::new(alloc, strings)?;
+    Ok(HeldStrings { strings, fault })
+}
+
+/// The raw tables that threads share, of what was gathered of them.
+pub fn raw_shared(alloc: Global, tables: SharedTables) -> Result<RawShared, NoMemory> {
+    let SharedTables {
+        strings,
+        resources,
+        funcs,
+        frames,
+        stacks,
+    } = tables;
+    let HeldStrings { strings, fault } = held_strings(alloc, strings)?;
+    let (has_resources, resources) = resource_columns(alloc, resources);
+    let funcs = func_columns(alloc, funcs);
+    let frames = frame_columns(alloc, frames);
+    let stacks = stack_columns(alloc, stacks);
+    Ok(RawShared {
+        strings,
+        string_fault: fault,
+        has_resources,
+        resource_name: resources.name,
+        resource_length: resources.length,
+        func_name: funcs.name,
+        func_is_js: funcs.is_js,
+        func_relevant_for_js: funcs.relevant_for_js,
+        func_resource: funcs.resource,
+        func_file_name: funcs.file_name,
+        func_length: funcs.length,
+        frame_func: frames.func,
+        frame_category: frames.category,
+        frame_length: frames.length,
+        stack_frame: stacks.frame,
+        stack_prefix: stacks.prefix,
+        stack_length: stacks.length,
+    })
+}
+
+/// The raw thread of what was gathered of it, over this list of strings.
+pub fn raw_thread(
+    alloc: Global,
+    parts: ThreadParts,
+    strings: HeldStrings,
+) -> Result<RawThread, NoMemory>
+    ensures { IfOk result (λ raw. AreRanges (length raw.marker_texts) raw.marker_ranges) }
+{
+    let ThreadParts {
+        name,
+        shared,
+        samples,
+        markers,
+    } = parts;
+    let SharedTables {
+        strings: _own,
+        resources,
+        funcs,
+        frames,
+        stacks,
+    } = shared;
+    let HeldStrings { strings, fault } = strings;
+    let name = thread_name(alloc, name)?;
+    let (has_resources, resources) = resource_columns(alloc, resources);
+    let funcs = func_columns(alloc, funcs);
+    let frames = frame_columns(alloc, frames);
+    let stacks = stack_columns(alloc, stacks);
+    let SampleTable {
+        stack,
+        time,
+        time_deltas,
+        unit,
+        weights,
+        length: sample_length,
+    } = sample_columns(alloc, samples);
+    let (sample_time, deltas) = time_column(time, time_deltas);
+    let sample_weight = weight_column(weights, unit);
+    let (has_markers, markers) = marker_columns(alloc, markers);
+    let MarkerTable {
+        phase,
+        name: marker_name,
+        start_time,
+        end_time,
+        data,
+        length: marker_length,
+    } = markers;
+    let MarkerData {
+        column: marker_data,
+        texts,
+        ranges,
+    } = data;
+    Ok(RawThread {
+        name,
+        strings,
+        string_fault: fault,
+        has_resources,
+        resource_name: resources.name,
+        resource_length: resources.length,
+        func_name: funcs.name,
+        func_is_js: funcs.is_js,
+        func_relevant_for_js: funcs.relevant_for_js,
+        func_resource: funcs.resource,
+        func_file_name: funcs.file_name,
+        func_length: funcs.length,
+        frame_func: frames.func,
+        frame_category: frames.category,
+        frame_length: frames.length,
+        stack_frame: stacks.frame,
+        stack_prefix: stacks.prefix,
+        stack_length: stacks.length,
+        sample_stack: stack,
+        sample_time,
+        deltas,
+        unit,
+        sample_weight,
+        sample_length,
+        has_markers,
+        marker_phase: phase,
+        marker_name,
+        marker_start: start_time,
+        marker_end: end_time,
+        marker_data,
+        marker_length,
+        marker_texts: texts,
+        marker_ranges: ranges,
+    })
+}
+
+/// The name of a thread, which is empty where it is no string.
+fn thread_name(alloc: Global, name: Option<String>) -> Result<Text, NoMemory> {
+    let mut text = Text::new(alloc);
+    if let Some(name) = name {
+        text.push_str(name.as_str())?;
+    }
+    Ok(text)
+}
