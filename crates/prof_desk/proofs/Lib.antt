@@ -3,3 +3,4 @@ pub mod Quoting
 pub mod Fresh
 pub mod Rows
 pub mod OwnTree
+pub mod OfText

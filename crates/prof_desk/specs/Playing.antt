@@ -1,8 +1,11 @@
 -- How the answering of an order ends.
-use Rattle.std.specs.Prelude.{◌≡◌, ◌≤◌, ◌<◌, ◌⊎◌, ℕ, List, [], length, Result, Err, OnOk, Option, IfSome}
+use Rattle.std.specs.Prelude.{◌≡◌, ◌≤◌, ◌<◌, ◌⊎◌, ℕ, List, [], length, Result, Err, OnOk, Option, IfSome, option_map}
 use Rattle.std.specs.Io.KnownBytes.{Appends}
 use Rattle.prof_io.specs.Causes.{Rose}
 use Rattle.prof_io.specs.Bytes.{AppendsPart}
+use Rattle.prof_io.specs.Shelf.{Place, content}
+use Rattle.prof_layout.specs.Profile.{Stands, Breaks}
+use Rattle.prof_gather.specs.Reading.{EndsBy}
 use Rattle.prof_json.specs.declared.answer.JsonFault.{JsonFault}
 use Rattle.prof_tables.specs.declared.rule.Broken.{Broken}
 use Rattle.prof_tables.specs.Profiles.{ProfileTables}
@@ -21,10 +24,18 @@ pub record Plays {T : Type 0} (old new : Option (List ℕ)) (room : Option ℕ) 
   pub short : result ≡ Err OutFault → IfSome room (λ r. r < length text)
   pub later : before ≤ now
 
--- what an order may write: its output for some profile, or nothing where it read none
-abbrev pub IsOutput : Order → List ℕ → Type 0
-IsOutput order text = ((p : ProfileTables) × (text ≡ output_of order p)) ⊎ (text ≡ [])
+-- the text of a file of that name, where the files tell their bytes
+abbrev pub text_in : Place → List ℕ → Option (List ℕ)
+text_in place name = option_map (λ shelf. content shelf name) place.files
 
--- what is told of a text that isn't accepted
-abbrev pub IsBreak : List ℕ → Type 0
-IsBreak text = ((fault : JsonFault) × (text ≡ fault_text fault)) ⊎ ((b : Broken) × (text ≡ broken_text b))
+-- the profile of a text, where that is told
+abbrev pub IsOfText : Option (List ℕ) → ProfileTables → Type 0
+IsOfText text p = IfSome text (λ bytes. Stands bytes p)
+
+-- what an order may write: its output for the profile of the text, or nothing where it read none
+abbrev pub IsOutput : Option (List ℕ) → Order → List ℕ → Type 0
+IsOutput file order text = ((p : ProfileTables) × IsOfText file p × (text ≡ output_of order p)) ⊎ (text ≡ [])
+
+-- what is told of a text that isn't accepted: the fault by which its reading ends, or the first check that it fails
+abbrev pub IsBreak : Option (List ℕ) → List ℕ → Type 0
+IsBreak file text = ((fault : JsonFault) × EndsBy fault file × (text ≡ fault_text fault)) ⊎ ((b : Broken) × IfSome file (λ bytes. Breaks bytes b) × (text ≡ broken_text b))

@@ -39,6 +39,11 @@ abbrev mutual
   flatten_members no_members = []
   flatten_members (member n v ms) = e.name n ∷ (flatten v ++ flatten_members ms)
 
+-- the members, and one more behind them
+abbrev pub snoc : Members → List ℕ → Value → Members
+snoc no_members n v = member n v no_members
+snoc (member m w ms) n v = member m w (snoc ms n v)
+
 -- the items of an array, as a list
 abbrev pub items : Values → List Value
 items no_values = []

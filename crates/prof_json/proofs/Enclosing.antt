@@ -1,6 +1,6 @@
 -- Events among brackets.
-use Rattle.std.proofs.Common.{◌≡◌, ◌≢◌, ℕ, zero, suc, ◌+◌, ◌-◌, ◌<◌, ◌≤◌, Bool, true, false, List, [], ◌∷◌, ◌++◌, length, take, refl, sym, subst, ap, ◌∙◌, arith}
-use Rattle.std.specs.Prelude.{Option, Some, None, Result, Ok, Err, IfOk, slice_get, ◌⊎◌}
+use Rattle.std.proofs.Common.{◌≡◌, ◌≢◌, ℕ, suc, ◌+◌, ◌-◌, ◌<◌, ◌≤◌, true, List, [], ◌∷◌, ◌++◌, length, take, refl, sym, ap, ◌∙◌, arith}
+use Rattle.std.specs.Prelude.{Some, None, Result, Ok, Err, IfOk, slice_get, ◌⊎◌}
 use Rattle.std.proofs.Common.{inl, inr}
 use Rattle.std.proofs.lemmas.List.{length-append, take-append-le, take_all}
 use Rattle.prof_json.specs.Ahead.{Ahead, Passes}
@@ -13,7 +13,7 @@ use Rattle.prof_json.specs.Step.{Begins, BeginsValue, IsStep, Keeps}
 use Rattle.prof_json.specs.declared.nesting.Bracket.{Bracket}
 use Rattle.prof_json.specs.declared.nesting.Bracket.TheVariants.{Array, Object}
 use Rattle.prof_json.specs.declared.nesting.Phase.{Phase}
-use Rattle.prof_json.specs.declared.nesting.Phase.TheVariants.{Start, FirstItem, FirstMember, AfterName, AfterValue}
+use Rattle.prof_json.specs.declared.nesting.Phase.TheVariants.{FirstItem, FirstMember, AfterName, AfterValue}
 use Rattle.prof_json.specs.declared.answer.JsonFault.{JsonFault}
 use Rattle.prof_json.specs.declared.answer.Event.{Event}
 use Rattle.prof_json.specs.declared.answer.Event.TheVariants as e
@@ -172,6 +172,25 @@ occurs_behind (nest.next_name xs) = record { outer = xs; is = refl }
 occurs_behind (nest.no_members xs) = tt
 occurs_behind (nest.last_member xs) = tt
 occurs_behind nest.end = tt
+
+-- where no more brackets are open than outside, a value is over
+pub value_over : {n m : Nest} {event : Event} → Leads n event m → (k : ℕ) → k ≤ length n.open_ → ((k < length n.open_) ⊎ (n.phase ≡ AfterName)) → length m.open_ ≤ k → m.phase ≡ AfterValue
+value_over (nest.array_start {n} t) k h d few = absurd (omega (arith, length-append n.open_ (Array ∷ [])))
+value_over (nest.object_start {n} t) k h d few = absurd (omega (arith, length-append n.open_ (Object ∷ [])))
+value_over (nest.str t) k h d few = refl
+value_over (nest.number t) k h d few = refl
+value_over (nest.yes_ t) k h d few = refl
+value_over (nest.no_ t) k h d few = refl
+value_over (nest.null t) k h d few = refl
+value_over (nest.no_items xs) k h d few = refl
+value_over (nest.last_item xs) k h d few = refl
+value_over (nest.first_name xs) k h (inl d) few = absurd (omega arith)
+value_over (nest.first_name xs) k h (inr d) few = absurd (let p : ⊥ = cc in p)
+value_over (nest.next_name xs) k h (inl d) few = absurd (omega arith)
+value_over (nest.next_name xs) k h (inr d) few = absurd (let p : ⊥ = cc in p)
+value_over (nest.no_members xs) k h d few = refl
+value_over (nest.last_member xs) k h d few = refl
+value_over nest.end k h d few = refl
 
 -- within brackets the text doesn't end
 pub no_end : {n m : Nest} {event : Event} → Leads n event m → (k : ℕ) → ((k < length n.open_) ⊎ (n.phase ≡ AfterName)) → event ≢ e.End

@@ -1,9 +1,9 @@
 -- Calls that read, one behind another.
-use Rattle.std.proofs.Common.{◌≡◌, ℕ, ◌+◌, ◌-◌, ◌≤◌, List, [], ◌∷◌, ◌++◌, length, take, drop, refl, sym, ap, ◌∙◌, arith, inl, inr}
-use Rattle.std.specs.Prelude.{Option, Some, None, Result, Ok, Err, OnOk, IfErr, ◌<◌, ◌⊎◌}
+use Rattle.std.proofs.Common.{◌≡◌, ℕ, ◌+◌, ◌-◌, ◌≤◌, List, [], ◌++◌, length, take, drop, refl, sym, ap, ◌∙◌, arith, inl, inr}
+use Rattle.std.specs.Prelude.{Option, Some, None, Result, Ok, Err, OnOk, IfErr, IfOk, ◌<◌, ◌⊎◌}
 use Rattle.std.proofs.lemmas.List.{append_assoc, length-append, take-append-drop, length-take, length-drop}
-use Rattle.prof_json.specs.Ahead.{Ahead, IsNext, IsSame, Knows, Passes}
-use Rattle.prof_json.specs.Moves.{Lent, Moves, IsRead, Reads, Blames, fault_of}
+use Rattle.prof_json.specs.Ahead.{Ahead, IsSame, Passes}
+use Rattle.prof_json.specs.Moves.{Lent, Moves, Reads, Blames, fault_of}
 use Rattle.prof_json.specs.declared.answer.JsonFault.{JsonFault}
 use Rattle.prof_json.specs.declared.answer.JsonFault.TheVariants.{NotJson, TooDeep, TooLong, ReadFault, NoMemory}
 
@@ -110,6 +110,14 @@ on_ok (Err fault) p = tt
 pub on_ok_map : {T P Q : Type 0} (r : Result T JsonFault) → (P → Q) → OnOk r P → OnOk r Q
 on_ok_map (Ok x) f p = f p
 on_ok_map (Err fault) f p = tt
+
+pub if_ok_map : {T : Type 0} {P Q : T → Type 0} (r : Result T JsonFault) → ((x : T) → P x → Q x) → IfOk r P → IfOk r Q
+if_ok_map (Ok x) f p = f x p
+if_ok_map (Err fault) f p = tt
+
+pub if_ok_all : {T : Type 0} {Q : T → Type 0} (r : Result T JsonFault) → ((x : T) → Q x) → IfOk r Q
+if_ok_all (Ok x) f = f x
+if_ok_all (Err fault) f = tt
 
 -- the answer of a text that grows
 pub moves_push : {T : Type 0} {x y : Type 0} {a b : Ahead} {s t : Lent} (r : Result T JsonFault) → IfErr r (λ f. f ≡ NoMemory) → Moves None x a s y b t → Moves (fault_of r) x a s y b t

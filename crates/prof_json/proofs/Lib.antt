@@ -5,3 +5,10 @@ pub mod Utf8
 pub mod Texts
 pub mod Enclosing
 pub mod Positions
+pub mod Machines
+pub mod Turns
+pub mod Written
+pub mod Standing
+pub mod Fresh
+pub mod Skipping
+pub mod Passing

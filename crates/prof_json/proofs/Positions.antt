@@ -1,18 +1,18 @@
 -- Where a reader stands.
-use Rattle.std.proofs.Common.{◌≡◌, ◌≢◌, ℕ, ◌+◌, ◌-◌, ◌<◌, ◌≤◌, List, [], ◌∷◌, ◌++◌, length, take, refl, sym, subst, ap, ◌∙◌, arith, inl, inr}
+use Rattle.std.proofs.Common.{sym, ◌≡◌, ◌≢◌, ℕ, ◌-◌, ◌<◌, ◌≤◌, List, [], ◌∷◌, length, take, refl, subst, ap, ◌∙◌, arith, inl, inr}
 use Rattle.std.specs.Prelude.{Option, Some, None, ◌⊎◌}
 use Rattle.std.proofs.lemmas.List.{length-append, take_all, take-append-le}
 use Rattle.prof_grammar.specs.Event as t
 use Rattle.prof_json.specs.Numbers.{IsNumeral}
-use Rattle.prof_json.specs.Nest.{Nest, IsWithin, Occurs}
+use Rattle.prof_json.specs.Nest.{IsWithin, Occurs}
 use Rattle.prof_json.specs.Position as p
 use Rattle.prof_json.specs.Position.{Position, fresh, last_of, IsReady, IsSound, IsLast}
 use Rattle.prof_json.specs.Skip as s
-use Rattle.prof_json.specs.Skip.{IsText, IsSkippable, IsBegun, Closes, outside_of}
+use Rattle.prof_json.specs.Skip.{IsText, IsSkippable, IsSkipped, IsRest, IsBegun, Closes, outside_of}
 use Rattle.prof_json.specs.declared.nesting.Bracket.{Bracket}
 use Rattle.prof_json.specs.declared.nesting.Bracket.TheVariants.{Array, Object}
 use Rattle.prof_json.specs.declared.nesting.Phase.{Phase}
-use Rattle.prof_json.specs.declared.nesting.Phase.TheVariants.{Start, FirstItem, FirstMember, AfterName, AfterValue}
+use Rattle.prof_json.specs.declared.nesting.Phase.TheVariants.{Start, AfterName, AfterValue}
 use Rattle.prof_json.specs.declared.answer.JsonFault.{JsonFault}
 use Rattle.prof_json.specs.declared.answer.Event.{Event}
 use Rattle.prof_json.specs.declared.answer.Event.TheVariants.{ObjectStart, ObjectEnd, ArrayStart, ArrayEnd, Name, Str, Number, True, False, Null, End}
@@ -148,3 +148,49 @@ closes_is (Some End) bytes xs ys phase h e = absurd h
 pub skippable_of : {A : Type 0} (fault : Option JsonFault) → fault ≡ None → ((fault ≢ None) ⊎ A) → A
 skippable_of fault e (inl f) = absurd (f e)
 skippable_of fault e (inr a) = a
+
+pub skipped_is : (last : Option Event) (bytes : List ℕ) (xs : List Bracket) (phase : Phase) (es : List t.Event) → IsSkippable (last_of last bytes) → IsReady xs phase last → IsRest phase es → IsSkipped (last_of last bytes) es
+skipped_is (Some Name) bytes xs phase es h k r =
+    let v = subst (λ (q : Phase). IsRest q es) k.behind r in subst (λ (fs : List t.Event). IsSkipped (last_of (Some Name) bytes) fs) (sym v.1) (s.member_value v.0)
+skipped_is (Some ArrayStart) bytes xs phase es h k r =
+    let v = subst (λ (q : Phase). IsRest q es) k.behind r in subst (λ (fs : List t.Event). IsSkipped (last_of (Some ArrayStart) bytes) fs) (sym v.1) (s.all_items v.0)
+skipped_is (Some ObjectStart) bytes xs phase es h k r =
+    let v = subst (λ (q : Phase). IsRest q es) k.behind r in subst (λ (fs : List t.Event). IsSkipped (last_of (Some ObjectStart) bytes) fs) (sym v.1) (s.all_members v.0)
+skipped_is None bytes xs phase es h k r = elim h [ ]
+skipped_is (Some ObjectEnd) bytes xs phase es h k r = elim h [ ]
+skipped_is (Some ArrayEnd) bytes xs phase es h k r = elim h [ ]
+skipped_is (Some Str) bytes xs phase es h k r = elim h [ ]
+skipped_is (Some Number) bytes xs phase es h k r = elim h [ ]
+skipped_is (Some True) bytes xs phase es h k r = elim h [ ]
+skipped_is (Some False) bytes xs phase es h k r = elim h [ ]
+skipped_is (Some Null) bytes xs phase es h k r = elim h [ ]
+skipped_is (Some End) bytes xs phase es h k r = elim h [ ]
+
+-- ---- the last event of a call that gave this one
+
+pub last_name : {last : Option t.Event} {event : Event} → IsLast event last → event ≡ Name → (x : List ℕ) × IsText last x
+last_name {last} h e = go last (rw e at h)
+  where
+    go : (last : Option t.Event) → IsLast Name last → (x : List ℕ) × IsText last x
+    go last (p.shown (p.name {s = x})) = (x, s.name)
+
+pub last_str : {last : Option t.Event} {event : Event} → IsLast event last → event ≡ Str → (x : List ℕ) × IsText last x
+last_str {last} h e = go last (rw e at h)
+  where
+    go : (last : Option t.Event) → IsLast Str last → (x : List ℕ) × IsText last x
+    go last (p.shown (p.str {s = x})) = (x, s.str)
+
+pub last_number : {last : Option t.Event} {event : Event} → IsLast event last → event ≡ Number → (x : List ℕ) × (last ≡ Some (t.number x))
+last_number {last} h e = go last (rw e at h)
+  where
+    go : (last : Option t.Event) → IsLast Number last → (x : List ℕ) × (last ≡ Some (t.number x))
+    go last (p.shown (p.number {t = x})) = (x, refl)
+
+pub last_begins_name : {last : Option t.Event} → IsLast Name last → IsSkippable last
+last_begins_name (p.shown p.name) = s.member_value
+
+pub last_begins_array : {last : Option t.Event} → IsLast ArrayStart last → IsSkippable last
+last_begins_array (p.shown p.array_start) = s.all_items
+
+pub last_begins_object : {last : Option t.Event} → IsLast ObjectStart last → IsSkippable last
+last_begins_object (p.shown p.object_start) = s.all_members

@@ -1,5 +1,5 @@
 -- Runs of bytes that pass a test.
-use Rattle.std.proofs.Common.{◌≡◌, ℕ, zero, suc, ◌+◌, ◌-◌, ◌<◌, ◌≤◌, Bool, true, false, List, [], ◌∷◌, ◌++◌, length, take, get_or, ap, ◌∙◌, arith}
+use Rattle.std.proofs.Common.{◌≡◌, ℕ, zero, suc, ◌+◌, ◌-◌, ◌<◌, ◌≤◌, Bool, true, false, List, [], ◌∷◌, ◌++◌, length, take, get_or, ap, ◌∙◌, refl, arith}
 use Rattle.std.proofs.lemmas.List.{take_more, length-take}
 use Rattle.prof_json.specs.Ahead.{Ahead, IsNext}
 use Rattle.prof_json.specs.Bytes.{Each, none, more}
@@ -34,3 +34,16 @@ run_within a b n xs s e h =
 
 pub run_fits : (a : Ahead) (n : ℕ) (xs : List ℕ) → xs ≡ take (a.limit - a.place) a.bytes → n ≤ length xs → 0 < n → a.place + n ≤ a.limit
 run_fits a n xs e h some = let k : n ≤ length (take (a.limit - a.place) a.bytes) = rw e at h in omega (arith, length-take (a.limit - a.place) a.bytes)
+
+take_take : (n k : ℕ) (xs : List ℕ) → n ≤ k → take n (take k xs) ≡ take n xs
+take_take zero k xs h = refl
+take_take (suc n) zero xs h = absurd (omega arith)
+take_take (suc n) (suc k) [] h = refl
+take_take (suc n) (suc k) (x ∷ xs) h = ap (λ r. x ∷ r) (take_take n k xs (omega arith))
+
+-- a run within what is ahead below the limit
+pub run_is : (a : Ahead) (n : ℕ) (xs : List ℕ) → xs ≡ take (a.limit - a.place) a.bytes → n ≤ length xs → take n xs ≡ take n a.bytes
+run_is a n xs e h =
+    let k : n ≤ length (take (a.limit - a.place) a.bytes) = rw e at h in
+    let few : n ≤ a.limit - a.place = omega (arith, length-take (a.limit - a.place) a.bytes) in
+    rw e (take_take n (a.limit - a.place) a.bytes few)

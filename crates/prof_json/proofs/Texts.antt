@@ -1,6 +1,6 @@
 -- Texts that grow.
-use Rattle.std.proofs.Common.{◌≡◌, ◌≢◌, ℕ, ◌≤◌, ◌<◌, Bool, true, false, List, [], ◌∷◌, ◌++◌, refl, sym, ap, ◌∙◌, subst, arith}
-use Rattle.std.specs.Prelude.{codes, ◌==◌, ◌||◌}
+use Rattle.std.proofs.Common.{◌≡◌, ◌≢◌, inl, inr, ℕ, Bool, true, false, List, [], ◌∷◌, ◌++◌, refl, sym, ap, ◌∙◌, arith}
+use Rattle.std.specs.Prelude.{codes, ◌==◌, ◌||◌, ◌⊎◌}
 use Rattle.std.proofs.lemmas.List.{append_assoc, append-nil}
 use Rattle.std.proofs.lemmas.Bool.Decides.{nat_tests}
 use Rattle.std.specs.Char.{IsAsciiDigit}
@@ -67,11 +67,15 @@ adds_fraction e h = record { piece = 46 ∷ h.piece; is = record { digits = h.pi
 pub no_sign : {k : Kept} → Adds IsSignText k k
 no_sign {k} = record { piece = []; is = record { down = false; reads = n.none }; text = gains_none }
 
-pub adds_plus : {k l : Kept} {b : ℕ} → b ≡ 43 → Gains k (b ∷ []) l → Adds IsSignText k l
+adds_plus : {k l : Kept} {b : ℕ} → b ≡ 43 → Gains k (b ∷ []) l → Adds IsSignText k l
 adds_plus e f = record { piece = codes "+"; is = record { down = false; reads = n.plus }; text = rw e at f }
 
-pub adds_minus : {k l : Kept} {b : ℕ} → b ≡ 45 → Gains k (b ∷ []) l → Adds IsSignText k l
+adds_minus : {k l : Kept} {b : ℕ} → b ≡ 45 → Gains k (b ∷ []) l → Adds IsSignText k l
 adds_minus e f = record { piece = codes "-"; is = record { down = true; reads = n.minus }; text = rw e at f }
+
+pub adds_sign : {k l : Kept} {b : ℕ} → ((b ≡ 43) ⊎ (b ≡ 45)) → Gains k (b ∷ []) l → Adds IsSignText k l
+adds_sign (inl e) f = adds_plus e f
+adds_sign (inr e) f = adds_minus e f
 
 pub no_exponent : {k : Kept} → Adds IsExponentText k k
 no_exponent {k} = record { piece = []; is = record { down = false; digits = []; reads = n.no_exponent }; text = gains_none }

@@ -7,3 +7,9 @@ pub mod Nest
 pub mod Position
 pub mod Step
 pub mod Skip
+pub mod Parts
+pub mod Goes
+pub mod Writes
+pub mod Stages
+pub mod Gives
+pub mod Tells

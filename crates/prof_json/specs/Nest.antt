@@ -1,5 +1,5 @@
 -- Which event may come, and what is open behind it.
-use Rattle.std.specs.Prelude.{◌≡◌, List, [], ◌∷◌, ◌++◌, Option, Some, None, IfSome, ⊤}
+use Rattle.std.specs.Prelude.{◌≡◌, List, [], ◌∷◌, ◌++◌, ⊤}
 use Rattle.prof_json.specs.declared.nesting.Bracket.{Bracket}
 use Rattle.prof_json.specs.declared.nesting.Bracket.TheVariants.{Array, Object}
 use Rattle.prof_json.specs.declared.nesting.Phase.{Phase}

@@ -1,5 +1,5 @@
 -- What reading one event gives.
-use Rattle.std.specs.Prelude.{◌≡◌, ◌≢◌, ℕ, ◌<◌, ◌≤◌, List, [], ◌∷◌, ◌++◌, length, true, Some}
+use Rattle.std.specs.Prelude.{◌≡◌, ◌≢◌, ◌<◌, ◌≤◌, List, [], ◌∷◌, ◌++◌, length, true, Some}
 use Rattle.prof_json.specs.Ahead.{Ahead}
 use Rattle.prof_json.specs.Kept.{Kept}
 use Rattle.prof_json.specs.Nest.{Nest, Leads, phase_after}

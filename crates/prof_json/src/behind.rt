@@ -1,10 +1,31 @@
 // What may stand behind a number.
+ghost use Rattle.std.specs.Prelude.{◌≡◌, ◌||◌, ◌==◌};
+ghost use Rattle.prof_json.specs.Bytes.{is_space};
+ghost use Rattle.prof_json.specs.Stages.{may_come};
+ghost use Rattle.prof_json.specs.Parts.{behind};
+
 use crate::input::Input;
 use crate::scan::is_blank;
 use crate::{Bracket, JsonFault};
 
+/// Whether the byte may stand behind an item.
+fn may_follow_item(byte: u8) -> bool
+    ensures { result ≡ (is_space byte || (byte == 44) || (byte == 93)) }
+{
+    is_blank(byte) || byte == b',' || byte == b']'
+}
+
+/// Whether the byte may stand behind a member.
+fn may_follow_member(byte: u8) -> bool
+    ensures { result ≡ (is_space byte || (byte == 44) || (byte == 125)) }
+{
+    is_blank(byte) || byte == b',' || byte == b'}'
+}
+
 /// Whether the byte, or the end of the text, may stand behind a value within these brackets.
-pub fn may_follow(brackets: &[Bracket], shown: Option<u8>) -> bool {
+pub fn may_follow(brackets: &[Bracket], shown: Option<u8>) -> bool
+    ensures { result ≡ may_come (behind brackets.now) shown }
+{
     match brackets.last() {
         None => match shown {
             None => true,
@@ -12,11 +33,11 @@ pub fn may_follow(brackets: &[Bracket], shown: Option<u8>) -> bool {
         },
         Some(Bracket::Array) => match shown {
             None => false,
-            Some(byte) => is_blank(byte) || byte == b',' || byte == b']',
+            Some(byte) => may_follow_item(byte),
         },
         Some(Bracket::Object) => match shown {
             None => false,
-            Some(byte) => is_blank(byte) || byte == b',' || byte == b'}',
+            Some(byte) => may_follow_member(byte),
         },
     }
 }

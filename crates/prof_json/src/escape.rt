@@ -1,9 +1,15 @@
 // Escapes of strings.
-ghost use Rattle.std.specs.Prelude.{◌≡◌, ◌<◌, true, is_some, IfOk, IfErr, IfSome, OnOk};
+ghost use Rattle.std.specs.Prelude.{◌≡◌, ◌<◌, ◌≤◌, ℕ, ◌+◌, ◌*◌, List, [], ◌∷◌, true, Option, is_some, IfOk, IfErr, IfSome, OnOk};
 ghost use Rattle.std.specs.Char.{is_ascii_hexdigit, digit_value};
-ghost use Rattle.std.specs.Char.Utf16.{is_high_surrogate, is_low_surrogate};
-ghost use Rattle.prof_grammar.specs.Machine.{escaped};
+ghost use Rattle.std.specs.Char.Utf16.{is_high_surrogate, is_low_surrogate, surrogate_pair_char, lone_unit_char};
+ghost use Rattle.std.specs.Option.{unwrap_or};
+ghost use Rattle.prof_grammar.specs.Machine.{Part, Role, chars, hex, nothing, escaped, settled, add_first, add_unit, with_unit, with_hex};
+ghost use Rattle.prof_grammar.specs.Reading.{max_depth};
+ghost use Rattle.prof_grammar.specs.Told.{depth};
 ghost use Rattle.prof_json.specs.Ahead.{IsNext};
+ghost use Rattle.prof_json.specs.Goes.{Goes};
+ghost use Rattle.prof_json.specs.Writes.{Writes, IsUnit, silent, shown_of, value_of};
+ghost use Rattle.prof_json.specs.Kept.{Kept, Gains};
 ghost use Rattle.prof_json.specs.Moves.{Moves, lent, fault_of};
 
 use crate::JsonFault;
@@ -59,14 +65,23 @@ pub fn is_low(unit: u16) -> bool
 pub fn pair_char(high: u16, low: u16) -> char
     requires high { is_high_surrogate high ≡ true }
     requires low { is_low_surrogate low ≡ true }
+    ensures { result ≡ surrogate_pair_char high low }
 {
     let code = 0x1_0000 + (high - 0xD800) as u32 * 0x400 + (low - 0xDC00) as u32;
     char::from_u32(code).unwrap_or('\u{FFFD}')
 }
 
+/// The character of a unit that is in no pair.
+fn lone_char(unit: u16) -> char
+    ensures { result ≡ unwrap_or (lone_unit_char unit) 0xFFFD }
+{
+    char::from_u32(unit as u32).unwrap_or('\u{FFFD}')
+}
+
 /// Adds what stands for a high surrogate that waits in vain for its partner.
 pub fn push_lone(text: &mut Buffer, high: Option<u16>) -> Result<(), JsonFault>
-    ensures { IfErr result (λ fault. fault ≡ JsonFault.NoMemory) }
+    ensures err { IfErr result (λ fault. fault ≡ JsonFault.NoMemory) }
+    ensures text { OnOk result ((begun : Kept) (s : List ℕ) → Gains begun s text.old → Gains begun (settled s high) text.new) }
 {
     match high {
         None => Ok(()),
@@ -74,24 +89,34 @@ pub fn push_lone(text: &mut Buffer, high: Option<u16>) -> Result<(), JsonFault>
     }
 }
 
+/// Adds the unit of a `\u` that is the second of no pair. Gives it where it waits for its partner.
+fn push_unpaired(text: &mut Buffer, high: Option<u16>, unit: u16) -> Result<Option<u16>, JsonFault>
+    ensures waits { IfOk result (λ o. IfSome o (λ u. is_high_surrogate u ≡ true)) }
+    ensures err { IfErr result (λ fault. fault ≡ JsonFault.NoMemory) }
+    ensures text { IfOk result (λ o. (begun : Kept) (s : List ℕ) → Gains begun s text.old → IsUnit begun (add_first (settled s high) unit) text.new o) }
+{
+    push_lone(text, high)?;
+    if is_high(unit) {
+        return Ok(Some(unit));
+    }
+    text.push_char(lone_char(unit))?;
+    Ok(None)
+}
+
 /// Adds the unit of a `\u`, behind a high surrogate that waits for its partner. Gives the one that waits then.
 pub fn push_unit(text: &mut Buffer, high: Option<u16>, unit: u16) -> Result<Option<u16>, JsonFault>
     requires { IfSome high (λ u. is_high_surrogate u ≡ true) }
     ensures waits { IfOk result (λ o. IfSome o (λ u. is_high_surrogate u ≡ true)) }
     ensures err { IfErr result (λ fault. fault ≡ JsonFault.NoMemory) }
+    ensures text { IfOk result (λ o. (begun : Kept) (s : List ℕ) → Gains begun s text.old → IsUnit begun (add_unit s high unit) text.new o) }
 {
-    if let Some(first) = high {
-        if is_low(unit) {
+    match high {
+        Some(first) if is_low(unit) => {
             text.push_char(pair_char(first, unit))?;
-            return Ok(None);
+            Ok(None)
         }
+        _ => push_unpaired(text, high, unit),
     }
-    push_lone(text, high)?;
-    if is_high(unit) {
-        return Ok(Some(unit));
-    }
-    text.push_char(char::from_u32(unit as u32).unwrap_or('\u{FFFD}'))?;
-    Ok(None)
 }
 
 /// Reads a hexadecimal digit.
@@ -100,6 +125,8 @@ fn read_hex<S: Source>(input: &mut Input, src: &mut S) -> Result<u16, JsonFault>
         (S.sure src.old) input.old (lent (S.left src.old) (S.written src.old) (S.place src.old) (S.faults src.old))
         (S.sure src.new) input.new (lent (S.left src.new) (S.written src.new) (S.place src.new) (S.faults src.new)) }
     ensures small { IfOk result (λ v. v < 16) }
+    ensures exact { (k : Role) (s : List ℕ) (p : Option ℕ) (n v : ℕ) (ps : List Part) → depth ps ≤ max_depth →
+        Goes (fault_of result) input.old (S.left src.old) (chars k s p (hex n v) ∷ ps) [] input.new (S.left src.new) (with_hex k s p n (v * 16 + value_of result) ∷ ps) }
 {
     let byte = input.need(src)?;
     match hex_value(byte) {
@@ -116,6 +143,8 @@ fn read_unit<S: Source>(input: &mut Input, src: &mut S) -> Result<u16, JsonFault
     ensures moves { Moves (fault_of result)
         (S.sure src.old) input.old (lent (S.left src.old) (S.written src.old) (S.place src.old) (S.faults src.old))
         (S.sure src.new) input.new (lent (S.left src.new) (S.written src.new) (S.place src.new) (S.faults src.new)) }
+    ensures exact { (k : Role) (s : List ℕ) (p : Option ℕ) (ps : List Part) → depth ps ≤ max_depth →
+        Goes (fault_of result) input.old (S.left src.old) (chars k s p (hex 3 0) ∷ ps) [] input.new (S.left src.new) (with_unit k s p (value_of result) ∷ ps) }
 {
     let a = read_hex(input, src)?;
     let b = read_hex(input, src)?;
@@ -139,6 +168,8 @@ pub fn read_escape<S: Source>(
         (S.sure src.new) input.new (lent (S.left src.new) (S.written src.new) (S.place src.new) (S.faults src.new)) }
     ensures waits { IfOk result (λ o. IfSome o (λ u. is_high_surrogate u ≡ true)) }
     ensures further { OnOk result (input.old.place < input.new.place) }
+    ensures exact { (begun : Kept) (k : Role) (s : List ℕ) (ps : List Part) → Gains begun s text.old → depth ps ≤ max_depth →
+        Writes (fault_of result) begun input.old (S.left src.old) (chars k s high nothing ∷ ps) silent input.new (S.left src.new) text.new (λ t. chars k t (shown_of result) nothing ∷ ps) }
 {
     input.pass(1);
     let letter = input.need(src)?;

@@ -1,8 +1,10 @@
 // A window over the bytes of a lent source.
-ghost use Rattle.std.specs.Prelude.{◌≡◌, ◌+◌, ◌<◌, ◌≤◌, ◌-◌, [], length, take, IfOk, IfSome, OnOk, IsOk, Ok, None, vec_len};
+ghost use Rattle.std.specs.Prelude.{◌≡◌, ◌+◌, ◌<◌, ◌≤◌, ◌-◌, List, [], length, take, IfOk, IfSome, OnOk, IsOk, Ok, None, vec_len};
 ghost use Rattle.std.specs.Io.KnownBytes.{IsAtEnd};
 ghost use Rattle.prof_io.specs.Causes.{HasCause};
 ghost use Rattle.prof_json.specs.Ahead.{IsNext, IsSame, IsShown, Passes};
+ghost use Rattle.prof_grammar.specs.Machine.{Part, finish};
+ghost use Rattle.prof_json.specs.Goes.{Goes};
 ghost use Rattle.prof_json.specs.Moves.{Moves, lent, fault_of};
 
 use crate::JsonFault;
@@ -85,6 +87,7 @@ impl Input {
             (S.sure src.new) self.new (lent (S.left src.new) (S.written src.new) (S.place src.new) (S.faults src.new)) }
         ensures same { IsSame self.old (S.left src.old) self.new (S.left src.new) }
         ensures shown { IfOk result (λ o. IsShown o self.new (S.left src.new)) }
+        ensures exact { (ps : List Part) → Goes (fault_of result) self.old (S.left src.old) ps [] self.new (S.left src.new) ps }
     {
         if let Err(Failed) = self.fill(src) {
             return Err(JsonFault::ReadFault);
@@ -105,6 +108,7 @@ impl Input {
             (S.sure src.new) self.new (lent (S.left src.new) (S.written src.new) (S.place src.new) (S.faults src.new)) }
         ensures same { IsSame self.old (S.left src.old) self.new (S.left src.new) }
         ensures byte { IfOk result (λ b. IsNext b self.new) }
+        ensures exact { (ps : List Part) → finish ps ≡ None → Goes (fault_of result) self.old (S.left src.old) ps [] self.new (S.left src.new) ps }
     {
         match self.peek(src) {
             Err(fault) => Err(fault),

@@ -6,6 +6,7 @@ mod behind;
 mod buffer;
 mod escape;
 mod input;
+pub mod laws;
 mod nesting;
 mod number;
 mod reading;
@@ -18,3 +19,6 @@ mod value;
 pub use answer::{Event, JsonFault};
 pub use nesting::{Bracket, Phase};
 pub use reading::Reader;
+
+#[cfg(test)]
+mod tests;

@@ -1,10 +1,17 @@
 // Numbers.
 #![tactic(auto, using(crate::proofs::Journeys::moves_trans, crate::proofs::Journeys::moves_here, crate::proofs::Journeys::moves_pass, crate::proofs::Journeys::moves_wrong, crate::proofs::Journeys::moves_deep, crate::proofs::Journeys::moves_full))]
 
-ghost use Rattle.std.specs.Prelude.{◌≡◌, ◌<◌, [], ◌∷◌, IfOk, IfErr, OnOk};
+ghost use Rattle.std.specs.Prelude.{◌≡◌, ◌≢◌, ◌<◌, ◌≤◌, ◌⊎◌, ℕ, List, [], ◌∷◌, ◌++◌, true, false, IfOk, IfErr, IfSome, OnOk, Some};
+ghost use Rattle.prof_grammar.specs.Machine.{Part, Stage, Next, class, step, digits, in_exponent, after_e, begin_value};
+ghost use Rattle.prof_grammar.specs.Reading.{max_depth};
+ghost use Rattle.prof_grammar.specs.Told.{depth};
 ghost use Rattle.prof_time.specs.Numeral.{AreDigits, IsDigits, IsInt};
 ghost use Rattle.prof_json.specs.Ahead.{IsNext, IsShown, Passes};
-ghost use Rattle.prof_json.specs.Kept.{Adds, Gains};
+ghost use Rattle.prof_json.specs.Bytes as bytes_spec;
+ghost use Rattle.prof_json.specs.Goes.{Goes};
+ghost use Rattle.prof_json.specs.Writes.{Writes, silent, shown_of, value_of};
+ghost use Rattle.prof_json.specs.Stages.{Counts, IsRunning, Wants, MayEnd, Signs, TakesFraction, TakesExponent, whole_stage, behind_fraction, behind_exponent, goes_further, no_byte};
+ghost use Rattle.prof_json.specs.Kept.{Kept, Adds, Gains};
 ghost use Rattle.prof_json.specs.Numbers.{IsFractionText, IsSignText, IsExponentText, IsUnsigned, IsNumeral};
 ghost use Rattle.prof_json.specs.Moves.{Moves, lent, fault_of};
 
@@ -38,6 +45,9 @@ fn read_digits<S: Source>(
         (S.sure src.new) input.new (lent (S.left src.new) (S.written src.new) (S.place src.new) (S.faults src.new)) }
     ensures shown { IfOk result (λ o. IsShown o input.new (S.left src.new)) }
     ensures text { OnOk result (Adds AreDigits text.old text.new) }
+    ensures behind { IfOk result (λ o. IfSome o (λ b. bytes_spec.is_digit b ≡ false)) }
+    ensures exact { (begun : Kept) (n : Stage) (s : List ℕ) (ps : List Part) → IsRunning n → Gains begun s text.old → depth ps ≤ max_depth →
+        Writes (fault_of result) begun input.old (S.left src.old) (digits n s ∷ ps) silent input.new (S.left src.new) text.new (λ t. digits n t ∷ ps) }
 {
     'digits: loop {
         let byte = match input.peek(src) {
@@ -57,20 +67,24 @@ fn read_digits<S: Source>(
     }
 }
 
-/// Reads one digit or more, and shows the byte behind them.
+/// Reads one digit or more, of which the first has to be shown, and shows the byte behind them.
 fn read_some_digits<S: Source>(
     input: &mut Input,
     src: &mut S,
     text: &mut Buffer,
+    first: u8,
 ) -> Result<Option<u8>, JsonFault>
+    requires { IsNext first input.old }
     ensures moves { Moves (fault_of result)
         (S.sure src.old) input.old (lent (S.left src.old) (S.written src.old) (S.place src.old) (S.faults src.old))
         (S.sure src.new) input.new (lent (S.left src.new) (S.written src.new) (S.place src.new) (S.faults src.new)) }
     ensures shown { IfOk result (λ o. IsShown o input.new (S.left src.new)) }
     ensures text { OnOk result (Adds IsDigits text.old text.new) }
     ensures further { OnOk result (input.old.place < input.new.place) }
+    ensures behind { IfOk result (λ o. IfSome o (λ b. bytes_spec.is_digit b ≡ false)) }
+    ensures exact { (begun : Kept) (n n2 : Stage) (s : List ℕ) (ps : List Part) → Wants n first n2 → IsRunning n2 → Gains begun s text.old → depth ps ≤ max_depth →
+        Writes (fault_of result) begun input.old (S.left src.old) (digits n s ∷ ps) silent input.new (S.left src.new) text.new (λ t. digits n2 t ∷ ps) }
 {
-    let first = input.need(src)?;
     if !is_digit(first) {
         return Err(input.wrong());
     }
@@ -78,28 +92,30 @@ fn read_some_digits<S: Source>(
     read_digits(input, src, text)
 }
 
-/// Reads the whole part, and shows the byte behind it.
+/// Reads the whole part, whose first digit is shown, and shows the byte behind it.
 fn read_whole<S: Source>(
     input: &mut Input,
     src: &mut S,
     text: &mut Buffer,
+    first: u8,
 ) -> Result<Option<u8>, JsonFault>
+    requires next { IsNext first input.old }
+    requires digit { bytes_spec.is_digit first ≡ true }
     ensures moves { Moves (fault_of result)
         (S.sure src.old) input.old (lent (S.left src.old) (S.written src.old) (S.place src.old) (S.faults src.old))
         (S.sure src.new) input.new (lent (S.left src.new) (S.written src.new) (S.place src.new) (S.faults src.new)) }
     ensures shown { IfOk result (λ o. IsShown o input.new (S.left src.new)) }
     ensures text { OnOk result (Adds IsInt text.old text.new) }
     ensures further { OnOk result (input.old.place < input.new.place) }
+    ensures over { IfOk result (λ o. MayEnd (whole_stage first) goes_further o) }
+    ensures exact { (begun : Kept) (s : List ℕ) (qs ps : List Part) → step qs (class first) first ≡ Some ([], digits (whole_stage first) (s ++ first ∷ []) ∷ ps) →
+        Gains begun s text.old → depth ps ≤ max_depth →
+        Writes (fault_of result) begun input.old (S.left src.old) qs silent input.new (S.left src.new) text.new (λ t. digits (whole_stage first) t ∷ ps) }
 {
-    let first = input.need(src)?;
+    read_byte(input, text, first)?;
     if first == b'0' {
-        read_byte(input, text, first)?;
         return input.peek(src);
     }
-    if !is_digit(first) {
-        return Err(input.wrong());
-    }
-    read_byte(input, text, first)?;
     read_digits(input, src, text)
 }
 
@@ -116,33 +132,40 @@ fn read_fraction<S: Source>(
         (S.sure src.new) input.new (lent (S.left src.new) (S.written src.new) (S.place src.new) (S.faults src.new)) }
     ensures shown { IfOk result (λ o. IsShown o input.new (S.left src.new)) }
     ensures text { OnOk result (Adds IsFractionText text.old text.new) }
+    ensures over { IfOk result (λ o. (n : Stage) → MayEnd n goes_further shown → MayEnd (behind_fraction shown n) bytes_spec.is_e o) }
+    ensures exact { (begun : Kept) (n : Stage) (s : List ℕ) (ps : List Part) → TakesFraction n → Gains begun s text.old → depth ps ≤ max_depth →
+        Writes (fault_of result) begun input.old (S.left src.old) (digits n s ∷ ps) silent input.new (S.left src.new) text.new (λ t. digits (behind_fraction shown n) t ∷ ps) }
 {
     match shown {
         Some(b'.') => {
             read_byte(input, text, b'.')?;
-            read_some_digits(input, src, text)
+            let first = input.need(src)?;
+            read_some_digits(input, src, text, first)
         }
         _ => Ok(shown),
     }
 }
 
-/// Reads the sign of an exponent, if there is one.
+/// Reads the sign of an exponent, if there is one, and shows the byte behind it.
 fn read_exponent_sign<S: Source>(
     input: &mut Input,
     src: &mut S,
     text: &mut Buffer,
-) -> Result<(), JsonFault>
+) -> Result<u8, JsonFault>
     ensures moves { Moves (fault_of result)
         (S.sure src.old) input.old (lent (S.left src.old) (S.written src.old) (S.place src.old) (S.faults src.old))
         (S.sure src.new) input.new (lent (S.left src.new) (S.written src.new) (S.place src.new) (S.faults src.new)) }
+    ensures byte { IfOk result (λ b. IsNext b input.new) }
     ensures text { OnOk result (Adds IsSignText text.old text.new) }
+    ensures exact { (begun : Kept) (s : List ℕ) (ps : List Part) → Gains begun s text.old → depth ps ≤ max_depth →
+        Signs (fault_of result) begun input.old (S.left src.old) (digits after_e s ∷ ps) input.new (S.left src.new) text.new (value_of result) ps }
 {
     let byte = input.need(src)?;
     if byte == b'+' || byte == b'-' {
         read_byte(input, text, byte)?;
-        return Ok(());
+        return input.need(src);
     }
-    Ok(())
+    Ok(byte)
 }
 
 /// Reads the exponent, if the byte that is shown begins one, and shows the byte behind it.
@@ -158,31 +181,40 @@ fn read_exponent<S: Source>(
         (S.sure src.new) input.new (lent (S.left src.new) (S.written src.new) (S.place src.new) (S.faults src.new)) }
     ensures shown { IfOk result (λ o. IsShown o input.new (S.left src.new)) }
     ensures text { OnOk result (Adds IsExponentText text.old text.new) }
+    ensures over { IfOk result (λ o. (n : Stage) → MayEnd n bytes_spec.is_e shown → MayEnd (behind_exponent shown n) no_byte o) }
+    ensures exact { (begun : Kept) (n : Stage) (s : List ℕ) (ps : List Part) → TakesExponent n → Gains begun s text.old → depth ps ≤ max_depth →
+        Writes (fault_of result) begun input.old (S.left src.old) (digits n s ∷ ps) silent input.new (S.left src.new) text.new (λ t. digits (behind_exponent shown n) t ∷ ps) }
 {
     match shown {
         Some(letter) if is_e(letter) => {
             read_byte(input, text, letter)?;
-            read_exponent_sign(input, src, text)?;
-            read_some_digits(input, src, text)
+            let first = read_exponent_sign(input, src, text)?;
+            read_some_digits(input, src, text, first)
         }
         _ => Ok(shown),
     }
 }
 
-/// Reads a number without a sign, and shows the byte behind it.
+/// Reads a number without a sign, whose first digit is shown, and shows the byte behind it.
 fn read_unsigned<S: Source>(
     input: &mut Input,
     src: &mut S,
     text: &mut Buffer,
+    first: u8,
 ) -> Result<Option<u8>, JsonFault>
+    requires next { IsNext first input.old }
+    requires digit { bytes_spec.is_digit first ≡ true }
     ensures moves { Moves (fault_of result)
         (S.sure src.old) input.old (lent (S.left src.old) (S.written src.old) (S.place src.old) (S.faults src.old))
         (S.sure src.new) input.new (lent (S.left src.new) (S.written src.new) (S.place src.new) (S.faults src.new)) }
     ensures shown { IfOk result (λ o. IsShown o input.new (S.left src.new)) }
     ensures text { OnOk result (Adds IsUnsigned text.old text.new) }
     ensures further { OnOk result (input.old.place < input.new.place) }
+    ensures exact { (begun : Kept) (s : List ℕ) (qs ps : List Part) → step qs (class first) first ≡ Some ([], digits (whole_stage first) (s ++ first ∷ []) ∷ ps) →
+        Gains begun s text.old → depth ps ≤ max_depth →
+        Counts (fault_of result) begun input.old (S.left src.old) qs input.new (S.left src.new) text.new (shown_of result) ps }
 {
-    let behind_whole = read_whole(input, src, text)?;
+    let behind_whole = read_whole(input, src, text, first)?;
     let behind_fraction = read_fraction(input, src, text, behind_whole)?;
     read_exponent(input, src, text, behind_fraction)
 }
@@ -194,17 +226,24 @@ pub fn read_number<S: Source>(
     text: &mut Buffer,
     first: u8,
 ) -> Result<Option<u8>, JsonFault>
-    requires { IsNext first input.old }
+    requires next { IsNext first input.old }
+    requires begins { (first ≡ 45) ⊎ (bytes_spec.is_digit first ≡ true) }
     ensures moves { Moves (fault_of result)
         (S.sure src.old) input.old (lent (S.left src.old) (S.written src.old) (S.place src.old) (S.faults src.old))
         (S.sure src.new) input.new (lent (S.left src.new) (S.written src.new) (S.place src.new) (S.faults src.new)) }
     ensures shown { IfOk result (λ o. IsShown o input.new (S.left src.new)) }
     ensures text { OnOk result (Adds IsNumeral text.old text.new) }
     ensures further { OnOk result (input.old.place < input.new.place) }
+    ensures exact { (begun : Kept) (qs ps : List Part) → step qs (class first) first ≡ begin_value (class first) first ps → Gains begun [] text.old → depth ps ≤ max_depth →
+        Counts (fault_of result) begun input.old (S.left src.old) qs input.new (S.left src.new) text.new (shown_of result) ps }
 {
-    if first == b'-' {
-        read_byte(input, text, first)?;
-        return read_unsigned(input, src, text);
+    if first != b'-' {
+        return read_unsigned(input, src, text, first);
     }
-    read_unsigned(input, src, text)
+    read_byte(input, text, first)?;
+    let digit = input.need(src)?;
+    if !is_digit(digit) {
+        return Err(input.wrong());
+    }
+    read_unsigned(input, src, text, digit)
 }

@@ -2,9 +2,12 @@
 ghost use Rattle.std.specs.Prelude.{◌≡◌, ◌≢◌, ℕ, ◌<◌, ◌≤◌, ◌⊎◌, List, [], length, take, Ok, Err, None, Some, IfOk, IfErr, IfSome, OnOk};
 ghost use Rattle.std.specs.Io.KnownBytes.{IsAtEnd};
 ghost use Rattle.prof_io.specs.Causes.{Rose};
+ghost use Rattle.prof_grammar.specs.Event as grammar;
+ghost use Rattle.prof_json.specs.Goes.{Goes, IsFaultOf};
 ghost use Rattle.prof_json.specs.Moves.{Moves, Reads, lent, fault_of};
 ghost use Rattle.prof_json.specs.Nest.{Occurs};
-ghost use Rattle.prof_json.specs.Skip.{IsBegun, outside_of};
+ghost use Rattle.prof_json.specs.Parts.{behind, parts_in};
+ghost use Rattle.prof_json.specs.Skip.{IsBegun, IsAround, IsRest, outside_of};
 
 use crate::buffer::Buffer;
 use crate::input::Input;
@@ -40,11 +43,14 @@ fn skip_events<S: Source>(
     requires placed { input.old.place ≤ input.old.limit }
     requires within { opened ≤ length brackets.old.items }
     requires inside { (opened < length brackets.old.items) ⊎ (begun ≡ Phase.AfterName) }
+    requires around { IsAround begun opened brackets.old.items }
     ensures moves { Moves (fault_of result)
         (S.sure src.old) input.old (lent (S.left src.old) (S.written src.old) (S.place src.old) (S.faults src.old))
         (S.sure src.new) input.new (lent (S.left src.new) (S.written src.new) (S.place src.new) (S.faults src.new)) }
     ensures closed { OnOk result (brackets.new.items ≡ take opened brackets.old.items) }
     ensures further { OnOk result (input.old.place < input.new.place) }
+    ensures told { OnOk result ((es : List grammar.Event) × IsRest begun es × Goes None input.old (S.left src.old) (parts_in begun (behind brackets.old.items)) es input.new (S.left src.new) (behind brackets.new.items)) }
+    ensures fault { IfErr result (λ fault. IsFaultOf fault input.old (S.left src.old) (parts_in begun (behind brackets.old.items))) }
 {
     let mut phase = begun;
     'events: loop {
@@ -88,15 +94,20 @@ impl Model for Reader {
 }
 
 impl Reader {
+    ghost use Rattle.std.specs.Option.{option_to_list};
     ghost use Rattle.prof_grammar.specs.Event.{number};
+    ghost use Rattle.prof_grammar.specs.Reading.{IsReading, finished};
     ghost use Rattle.prof_json.specs.Nest.{Leads};
     ghost use Rattle.prof_json.specs.Numbers.{IsNumeral};
     ghost use Rattle.prof_json.specs.Position.{IsLast, StandsAt, fresh};
-    ghost use Rattle.prof_json.specs.Skip.{IsText, IsSkippable, Closes};
+    ghost use Rattle.prof_json.specs.Skip.{IsText, IsSkippable, IsSkipped, Closes};
+    ghost use Rattle.prof_json.specs.Tells.{Tells, Ends, EndsBy, FailsBy, rest};
 
     /// A reader of a text of at most `limit` bytes. It holds no source.
     pub fn new(alloc: Global, limit: u64) -> Result<Reader, NoMemory>
-        ensures { IfOk result (λ r. r ≡ fresh limit) }
+        ensures fresh { IfOk result (λ r. r ≡ fresh limit) }
+        // What it reads of any text is the reading of that text.
+        ensures reading { IfOk result (λ r. (text : List ℕ) → IsReading limit text (rest r text).events (rest r text).ending) }
     {
         let input = Input::new(alloc, limit)?;
         Ok(Reader {
@@ -131,6 +142,13 @@ impl Reader {
         // The event may stand where it stands, and is the last one.
         ensures nest { IfOk result (λ e. Leads self.old.nest e self.new.nest) }
         ensures last { IfOk result (λ e. IsLast e self.new.last) }
+
+        // Where the source tells its bytes, the event is the next one of the text, and with `End` the reading is over.
+        ensures told { OnOk result (Tells self.old (S.left src.old) (option_to_list self.new.last) self.new (S.left src.new)) }
+        ensures finished { result ≡ Ok Event.End → Ends finished self.old (S.left src.old) }
+
+        // The fault is that of the text, at its place.
+        ensures fault { IfErr result (λ fault. self.old.fault ≡ None → EndsBy fault self.old (S.left src.old)) }
 
         // A fault is kept, and each call repeats it, and changes nothing.
         ensures sound { OnOk result ((self.old.fault ≡ None) × (self.new.fault ≡ None)) }
@@ -184,6 +202,10 @@ impl Reader {
         // The value is over.
         ensures nest { OnOk result (Closes self.old.last self.old.nest self.new.nest) }
         ensures last { OnOk result (self.new.last ≡ None) }
+
+        // Where the source tells its bytes, these are the next events of the text, and the fault is that of the text.
+        ensures told { OnOk result ((es : List grammar.Event) × IsSkipped self.old.last es × Tells self.old (S.left src.old) es self.new (S.left src.new)) }
+        ensures fault { IfErr result (λ fault. self.old.fault ≡ None → FailsBy fault self.old (S.left src.old)) }
 
         // A fault is kept, and each call repeats it, and changes nothing.
         ensures sound { OnOk result ((self.old.fault ≡ None) × (self.new.fault ≡ None)) }

@@ -1,8 +1,16 @@
 // The next event, by what may come.
 ghost use Rattle.std.specs.Prelude.{◌≡◌, ℕ, ◌<◌, ◌≤◌, List, [], ◌∷◌, ◌++◌, length, IfOk, OnOk, Ok};
 ghost use Rattle.std.specs.Io.KnownBytes.{IsAtEnd};
+ghost use Rattle.prof_grammar.specs.Grammar.{value};
+ghost use Rattle.prof_grammar.specs.Machine.{Part, blank, symbol};
+ghost use Rattle.prof_grammar.specs.Reading.{finished};
 ghost use Rattle.prof_json.specs.Ahead.{IsNext, Passes};
+ghost use Rattle.prof_json.specs.Goes.{Goes, Stops};
+ghost use Rattle.prof_json.specs.Writes.{Writes};
+ghost use Rattle.prof_json.specs.Gives.{TakesName, told_by, parts_behind};
+ghost use Rattle.prof_json.specs.Kept.{Kept, Gains};
 ghost use Rattle.prof_json.specs.Nest.{Occurs, IsWithin};
+ghost use Rattle.prof_json.specs.Parts.{behind, parts_in};
 ghost use Rattle.prof_json.specs.Step.{BeginsValue, IsStep};
 ghost use Rattle.prof_json.specs.Moves.{Moves, lent, fault_of};
 
@@ -26,6 +34,8 @@ fn read_value<S: Source>(
         (S.sure src.old) input.old (lent (S.left src.old) (S.written src.old) (S.place src.old) (S.faults src.old))
         (S.sure src.new) input.new (lent (S.left src.new) (S.written src.new) (S.place src.new) (S.faults src.new)) }
     ensures ok { IfOk result (λ e. BeginsValue brackets.old.items e brackets.new.items input.old input.new text.old text.new) }
+    ensures exact { (begun : Kept) → Gains begun [] text.old →
+        Writes (fault_of result) begun input.old (S.left src.old) (blank ∷ symbol value ∷ behind brackets.old.items) (told_by result) input.new (S.left src.new) text.new (λ t. parts_behind result brackets.new.items) }
 {
     let first = need_behind_blank(input, src)?;
     begin_value(input, src, brackets, text, first)
@@ -43,6 +53,8 @@ fn read_name<S: Source>(
         (S.sure src.old) input.old (lent (S.left src.old) (S.written src.old) (S.place src.old) (S.faults src.old))
         (S.sure src.new) input.new (lent (S.left src.new) (S.written src.new) (S.place src.new) (S.faults src.new)) }
     ensures ok { IfOk result (λ e. (e ≡ Event.Name) × (input.old.place < input.new.place)) }
+    ensures exact { (begun : Kept) (qs : List Part) (xs : List Bracket) → TakesName first qs xs → Gains begun [] text.old → length xs ≤ 256 →
+        Writes (fault_of result) begun input.old (S.left src.old) qs (told_by result) input.new (S.left src.new) text.new (λ t. parts_behind result xs) }
 {
     if first != b'"' {
         return Err(input.wrong());
@@ -75,6 +87,8 @@ fn read_start<S: Source>(
         (S.sure src.old) input.old (lent (S.left src.old) (S.written src.old) (S.place src.old) (S.faults src.old))
         (S.sure src.new) input.new (lent (S.left src.new) (S.written src.new) (S.place src.new) (S.faults src.new)) }
     ensures ok { IfOk result (λ e. IsStep (record { open_ = brackets.old.items; phase = Phase.Start }) e brackets.new.items input.old input.new text.old text.new) }
+    ensures exact { (begun : Kept) → Gains begun [] text.old →
+        Writes (fault_of result) begun input.old (S.left src.old) (parts_in Phase.Start (behind brackets.old.items)) (told_by result) input.new (S.left src.new) text.new (λ t. parts_behind result brackets.new.items) }
 {
     pass_mark(input, src)?;
     read_value(input, src, brackets, text)
@@ -93,6 +107,8 @@ fn read_first_item<S: Source>(
         (S.sure src.old) input.old (lent (S.left src.old) (S.written src.old) (S.place src.old) (S.faults src.old))
         (S.sure src.new) input.new (lent (S.left src.new) (S.written src.new) (S.place src.new) (S.faults src.new)) }
     ensures ok { IfOk result (λ e. IsStep (record { open_ = brackets.old.items; phase = Phase.FirstItem }) e brackets.new.items input.old input.new text.old text.new) }
+    ensures exact { (begun : Kept) → Gains begun [] text.old →
+        Writes (fault_of result) begun input.old (S.left src.old) (parts_in Phase.FirstItem (behind brackets.old.items)) (told_by result) input.new (S.left src.new) text.new (λ t. parts_behind result brackets.new.items) }
 {
     let first = need_behind_blank(input, src)?;
     if first == b']' {
@@ -115,6 +131,8 @@ fn read_first_member<S: Source>(
         (S.sure src.old) input.old (lent (S.left src.old) (S.written src.old) (S.place src.old) (S.faults src.old))
         (S.sure src.new) input.new (lent (S.left src.new) (S.written src.new) (S.place src.new) (S.faults src.new)) }
     ensures ok { IfOk result (λ e. IsStep (record { open_ = brackets.old.items; phase = Phase.FirstMember }) e brackets.new.items input.old input.new text.old text.new) }
+    ensures exact { (begun : Kept) → Gains begun [] text.old →
+        Writes (fault_of result) begun input.old (S.left src.old) (parts_in Phase.FirstMember (behind brackets.old.items)) (told_by result) input.new (S.left src.new) text.new (λ t. parts_behind result brackets.new.items) }
 {
     let first = need_behind_blank(input, src)?;
     if first == b'}' {
@@ -137,6 +155,8 @@ fn read_member_value<S: Source>(
         (S.sure src.old) input.old (lent (S.left src.old) (S.written src.old) (S.place src.old) (S.faults src.old))
         (S.sure src.new) input.new (lent (S.left src.new) (S.written src.new) (S.place src.new) (S.faults src.new)) }
     ensures ok { IfOk result (λ e. IsStep (record { open_ = brackets.old.items; phase = Phase.AfterName }) e brackets.new.items input.old input.new text.old text.new) }
+    ensures exact { (begun : Kept) → Gains begun [] text.old →
+        Writes (fault_of result) begun input.old (S.left src.old) (parts_in Phase.AfterName (behind brackets.old.items)) (told_by result) input.new (S.left src.new) text.new (λ t. parts_behind result brackets.new.items) }
 {
     let first = need_behind_blank(input, src)?;
     if first != b':' {
@@ -159,6 +179,8 @@ fn read_next_item<S: Source>(
         (S.sure src.old) input.old (lent (S.left src.old) (S.written src.old) (S.place src.old) (S.faults src.old))
         (S.sure src.new) input.new (lent (S.left src.new) (S.written src.new) (S.place src.new) (S.faults src.new)) }
     ensures ok { IfOk result (λ e. IsStep (record { open_ = brackets.old.items; phase = Phase.AfterValue }) e brackets.new.items input.old input.new text.old text.new) }
+    ensures exact { (begun : Kept) → Gains begun [] text.old →
+        Writes (fault_of result) begun input.old (S.left src.old) (parts_in Phase.AfterValue (behind brackets.old.items)) (told_by result) input.new (S.left src.new) text.new (λ t. parts_behind result brackets.new.items) }
 {
     let first = need_behind_blank(input, src)?;
     if first == b']' {
@@ -185,6 +207,8 @@ fn read_next_member<S: Source>(
         (S.sure src.old) input.old (lent (S.left src.old) (S.written src.old) (S.place src.old) (S.faults src.old))
         (S.sure src.new) input.new (lent (S.left src.new) (S.written src.new) (S.place src.new) (S.faults src.new)) }
     ensures ok { IfOk result (λ e. IsStep (record { open_ = brackets.old.items; phase = Phase.AfterValue }) e brackets.new.items input.old input.new text.old text.new) }
+    ensures exact { (begun : Kept) → Gains begun [] text.old →
+        Writes (fault_of result) begun input.old (S.left src.old) (parts_in Phase.AfterValue (behind brackets.old.items)) (told_by result) input.new (S.left src.new) text.new (λ t. parts_behind result brackets.new.items) }
 {
     let first = need_behind_blank(input, src)?;
     if first == b'}' {
@@ -206,6 +230,8 @@ fn read_end<S: Source>(input: &mut Input, src: &mut S) -> Result<Event, JsonFaul
         (S.sure src.new) input.new (lent (S.left src.new) (S.written src.new) (S.place src.new) (S.faults src.new)) }
     ensures ok { IfOk result (λ e. e ≡ Event.End) }
     ensures end { OnOk result (IsAtEnd (S.left src.new)) }
+    ensures exact { Goes (fault_of result) input.old (S.left src.old) (blank ∷ []) [] input.new (S.left src.new) (blank ∷ []) }
+    ensures finished { OnOk result (Stops finished input.old (S.left src.old) (blank ∷ [])) }
 {
     match skip_blank(input, src)? {
         None => Ok(Event::End),
@@ -226,6 +252,9 @@ fn read_behind_value<S: Source>(
         (S.sure src.new) input.new (lent (S.left src.new) (S.written src.new) (S.place src.new) (S.faults src.new)) }
     ensures ok { IfOk result (λ e. IsStep (record { open_ = brackets.old.items; phase = Phase.AfterValue }) e brackets.new.items input.old input.new text.old text.new) }
     ensures end { result ≡ Ok Event.End → IsAtEnd (S.left src.new) }
+    ensures exact { (begun : Kept) → Gains begun [] text.old →
+        Writes (fault_of result) begun input.old (S.left src.old) (parts_in Phase.AfterValue (behind brackets.old.items)) (told_by result) input.new (S.left src.new) text.new (λ t. parts_behind result brackets.new.items) }
+    ensures finished { result ≡ Ok Event.End → Stops finished input.old (S.left src.old) (parts_in Phase.AfterValue (behind brackets.old.items)) }
 {
     match brackets.last() {
         None => read_end(input, src),
@@ -249,6 +278,9 @@ pub fn read_event<S: Source>(
         (S.sure src.new) input.new (lent (S.left src.new) (S.written src.new) (S.place src.new) (S.faults src.new)) }
     ensures ok { IfOk result (λ e. IsStep (record { open_ = brackets.old.items; phase = phase }) e brackets.new.items input.old input.new text.old text.new) }
     ensures end { result ≡ Ok Event.End → IsAtEnd (S.left src.new) }
+    ensures exact { (begun : Kept) → Gains begun [] text.old →
+        Writes (fault_of result) begun input.old (S.left src.old) (parts_in phase (behind brackets.old.items)) (told_by result) input.new (S.left src.new) text.new (λ t. parts_behind result brackets.new.items) }
+    ensures finished { result ≡ Ok Event.End → Stops finished input.old (S.left src.old) (parts_in phase (behind brackets.old.items)) }
 {
     match phase {
         Phase::Start => read_start(input, src, brackets, text),

@@ -1,8 +1,14 @@
 // Strings.
-ghost use Rattle.std.specs.Prelude.{◌≡◌, ℕ, ◌<◌, ◌≤◌, ◌⊎◌, true, length, IfOk, IfErr, IfSome, OnOk};
+ghost use Rattle.std.specs.Prelude.{◌≡◌, ◌≢◌, ℕ, ◌<◌, ◌≤◌, ◌⊎◌, List, [], ◌∷◌, ◌++◌, true, Option, None, length, IfOk, IfErr, IfSome, OnOk};
 ghost use Rattle.std.specs.Char.Utf16.{is_high_surrogate};
 ghost use Rattle.prof_json.specs.Ahead.{IsNext, Passes};
 ghost use Rattle.prof_json.specs.Bytes as bytes_spec;
+ghost use Rattle.prof_grammar.specs.Machine.{Part, Role, Tail, chars, nothing, lead, told, settled, tail_low, tail_high, tail_next, with_byte};
+ghost use Rattle.prof_grammar.specs.Reading.{max_depth};
+ghost use Rattle.prof_grammar.specs.Told.{depth};
+ghost use Rattle.prof_json.specs.Goes.{Goes};
+ghost use Rattle.prof_json.specs.Writes.{Writes, silent, shown_of, value_of};
+ghost use Rattle.prof_json.specs.Kept.{Kept, Gains};
 ghost use Rattle.prof_json.specs.Moves.{Moves, lent, fault_of};
 
 use crate::JsonFault;
@@ -13,9 +19,13 @@ use crate::scan::plain_len;
 use prof_io::Source;
 
 /// Reads a run of plain bytes, of which the first is shown.
-fn read_plain(input: &mut Input, text: &mut Buffer) -> Result<(), JsonFault>
+fn read_plain(input: &mut Input, text: &mut Buffer, first: u8) -> Result<(), JsonFault>
+    requires next { IsNext first input.old }
+    requires ascii { (first < 128) × (first ≢ 34) × (first ≢ 92) }
     ensures run { OnOk result ((n : ℕ) × (0 < n) × Passes n input.old input.new) }
     ensures err { IfErr result (λ fault. (input.new ≡ input.old) × ((fault ≡ JsonFault.NoMemory) ⊎ (fault ≡ JsonFault.NotJson input.old.place))) }
+    ensures exact { (left : Option (List ℕ)) (begun : Kept) (k : Role) (s : List ℕ) (p : Option ℕ) (ps : List Part) → Gains begun (settled s p) text.old → depth ps ≤ max_depth →
+        Writes (fault_of result) begun input.old left (chars k s p nothing ∷ ps) silent input.new left text.new (λ t. chars k t None nothing ∷ ps) }
 {
     let ahead = input.ahead();
     let run = plain_len(ahead);
@@ -61,6 +71,8 @@ fn read_between<S: Source>(
         (S.sure src.new) input.new (lent (S.left src.new) (S.written src.new) (S.place src.new) (S.faults src.new)) }
     ensures between { IfOk result (λ b. (low ≤ b) × (b ≤ high)) }
     ensures further { OnOk result (input.old.place < input.new.place) }
+    ensures exact { (k : Role) (s : List ℕ) (p : Option ℕ) (t : Tail) (bytes : List ℕ) (ps : List Part) → tail_low t ≡ low → tail_high t ≡ high → depth ps ≤ max_depth →
+        Goes (fault_of result) input.old (S.left src.old) (chars k s p (lead t bytes) ∷ ps) [] input.new (S.left src.new) (with_byte k s p (tail_next t) (bytes ++ value_of result ∷ []) ∷ ps) }
 {
     let byte = input.need(src)?;
     if byte < low || byte > high {
@@ -83,6 +95,8 @@ fn read_two<S: Source>(
         (S.sure src.old) input.old (lent (S.left src.old) (S.written src.old) (S.place src.old) (S.faults src.old))
         (S.sure src.new) input.new (lent (S.left src.new) (S.written src.new) (S.place src.new) (S.faults src.new)) }
     ensures further { OnOk result (input.old.place < input.new.place) }
+    ensures exact { (begun : Kept) (k : Role) (s : List ℕ) (p : Option ℕ) (ps : List Part) → Gains begun (settled s p) text.old → depth ps ≤ max_depth →
+        Writes (fault_of result) begun input.old (S.left src.old) (chars k s p nothing ∷ ps) silent input.new (S.left src.new) text.new (λ t. chars k t None nothing ∷ ps) }
 {
     input.pass(1);
     let second = read_between(input, src, 0x80, 0xBF)?;
@@ -102,6 +116,8 @@ fn read_three<S: Source>(
         (S.sure src.old) input.old (lent (S.left src.old) (S.written src.old) (S.place src.old) (S.faults src.old))
         (S.sure src.new) input.new (lent (S.left src.new) (S.written src.new) (S.place src.new) (S.faults src.new)) }
     ensures further { OnOk result (input.old.place < input.new.place) }
+    ensures exact { (begun : Kept) (k : Role) (s : List ℕ) (p : Option ℕ) (ps : List Part) → Gains begun (settled s p) text.old → depth ps ≤ max_depth →
+        Writes (fault_of result) begun input.old (S.left src.old) (chars k s p nothing ∷ ps) silent input.new (S.left src.new) text.new (λ t. chars k t None nothing ∷ ps) }
 {
     input.pass(1);
     let second = read_between(input, src, second_low(first), second_high(first))?;
@@ -122,6 +138,8 @@ fn read_four<S: Source>(
         (S.sure src.old) input.old (lent (S.left src.old) (S.written src.old) (S.place src.old) (S.faults src.old))
         (S.sure src.new) input.new (lent (S.left src.new) (S.written src.new) (S.place src.new) (S.faults src.new)) }
     ensures further { OnOk result (input.old.place < input.new.place) }
+    ensures exact { (begun : Kept) (k : Role) (s : List ℕ) (p : Option ℕ) (ps : List Part) → Gains begun (settled s p) text.old → depth ps ≤ max_depth →
+        Writes (fault_of result) begun input.old (S.left src.old) (chars k s p nothing ∷ ps) silent input.new (S.left src.new) text.new (λ t. chars k t None nothing ∷ ps) }
 {
     input.pass(1);
     let second = read_between(input, src, second_low(first), second_high(first))?;
@@ -137,14 +155,17 @@ fn read_themselves<S: Source>(
     text: &mut Buffer,
     first: u8,
 ) -> Result<(), JsonFault>
-    requires { IsNext first input.old }
+    requires next { IsNext first input.old }
+    requires plain { (first ≢ 34) × (first ≢ 92) }
     ensures moves { Moves (fault_of result)
         (S.sure src.old) input.old (lent (S.left src.old) (S.written src.old) (S.place src.old) (S.faults src.old))
         (S.sure src.new) input.new (lent (S.left src.new) (S.written src.new) (S.place src.new) (S.faults src.new)) }
     ensures further { OnOk result (input.old.place < input.new.place) }
+    ensures exact { (begun : Kept) (k : Role) (s : List ℕ) (p : Option ℕ) (ps : List Part) → Gains begun (settled s p) text.old → depth ps ≤ max_depth →
+        Writes (fault_of result) begun input.old (S.left src.old) (chars k s p nothing ∷ ps) silent input.new (S.left src.new) text.new (λ t. chars k t None nothing ∷ ps) }
 {
     if first < 0x80 {
-        return read_plain(input, text);
+        return read_plain(input, text, first);
     }
     if first < 0xC2 {
         return Err(input.wrong());
@@ -171,12 +192,15 @@ fn read_piece<S: Source>(
     first: u8,
 ) -> Result<Option<u16>, JsonFault>
     requires next { IsNext first input.old }
+    requires piece { first ≢ 34 }
     requires high { IfSome high (λ u. is_high_surrogate u ≡ true) }
     ensures moves { Moves (fault_of result)
         (S.sure src.old) input.old (lent (S.left src.old) (S.written src.old) (S.place src.old) (S.faults src.old))
         (S.sure src.new) input.new (lent (S.left src.new) (S.written src.new) (S.place src.new) (S.faults src.new)) }
     ensures waits { IfOk result (λ o. IfSome o (λ u. is_high_surrogate u ≡ true)) }
     ensures further { OnOk result (input.old.place < input.new.place) }
+    ensures exact { (begun : Kept) (k : Role) (s : List ℕ) (ps : List Part) → Gains begun s text.old → depth ps ≤ max_depth →
+        Writes (fault_of result) begun input.old (S.left src.old) (chars k s high nothing ∷ ps) silent input.new (S.left src.new) text.new (λ t. chars k t (shown_of result) nothing ∷ ps) }
 {
     if first == b'\\' {
         return read_escape(input, src, text, high);
@@ -195,6 +219,8 @@ pub fn read_string<S: Source>(
     ensures moves { Moves (fault_of result)
         (S.sure src.old) input.old (lent (S.left src.old) (S.written src.old) (S.place src.old) (S.faults src.old))
         (S.sure src.new) input.new (lent (S.left src.new) (S.written src.new) (S.place src.new) (S.faults src.new)) }
+    ensures exact { (begun : Kept) (k : Role) (s : List ℕ) (ps : List Part) → Gains begun s text.old → depth ps ≤ max_depth →
+        Writes (fault_of result) begun input.old (S.left src.old) (chars k s None nothing ∷ ps) (λ t. told k t ∷ []) input.new (S.left src.new) text.new (λ t. ps) }
 {
     let mut high = None;
     'pieces: loop {

@@ -1,7 +1,11 @@
 // White space, words and the byte order mark.
-ghost use Rattle.std.specs.Prelude.{◌≡◌, ◌+◌, false, length, IfOk, IfSome, OnOk};
+ghost use Rattle.std.specs.Prelude.{◌≡◌, ◌+◌, ◌≤◌, ◌∷◌, List, [], false, None, length, IfOk, IfSome, OnOk};
 ghost use Rattle.prof_json.specs.Ahead.{IsNext, IsShown};
 ghost use Rattle.prof_json.specs.Bytes.{is_space};
+ghost use Rattle.prof_grammar.specs.Machine.{Part, Literal, blank, mark, finish};
+ghost use Rattle.prof_grammar.specs.Reading.{max_depth};
+ghost use Rattle.prof_grammar.specs.Told.{depth};
+ghost use Rattle.prof_json.specs.Goes.{Goes, behind_word, told_behind};
 ghost use Rattle.prof_json.specs.Moves.{Moves, lent, fault_of};
 
 use crate::JsonFault;
@@ -16,6 +20,7 @@ pub fn skip_blank<S: Source>(input: &mut Input, src: &mut S) -> Result<Option<u8
         (S.sure src.new) input.new (lent (S.left src.new) (S.written src.new) (S.place src.new) (S.faults src.new)) }
     ensures shown { IfOk result (λ o. IsShown o input.new (S.left src.new)) }
     ensures behind { IfOk result (λ o. IfSome o (λ b. is_space b ≡ false)) }
+    ensures exact { (ps : List Part) → depth ps ≤ max_depth → Goes (fault_of result) input.old (S.left src.old) (blank ∷ ps) [] input.new (S.left src.new) (blank ∷ ps) }
 {
     'blanks: loop {
         let byte = match input.peek(src) {
@@ -38,6 +43,7 @@ pub fn need_behind_blank<S: Source>(input: &mut Input, src: &mut S) -> Result<u8
         (S.sure src.new) input.new (lent (S.left src.new) (S.written src.new) (S.place src.new) (S.faults src.new)) }
     ensures byte { IfOk result (λ b. IsNext b input.new) }
     ensures behind { IfOk result (λ b. is_space b ≡ false) }
+    ensures exact { (ps : List Part) → depth ps ≤ max_depth → finish ps ≡ None → Goes (fault_of result) input.old (S.left src.old) (blank ∷ ps) [] input.new (S.left src.new) (blank ∷ ps) }
 {
     match skip_blank(input, src) {
         Err(fault) => Err(fault),
@@ -52,6 +58,8 @@ pub fn pass_word<S: Source>(input: &mut Input, src: &mut S, word: &[u8]) -> Resu
         (S.sure src.old) input.old (lent (S.left src.old) (S.written src.old) (S.place src.old) (S.faults src.old))
         (S.sure src.new) input.new (lent (S.left src.new) (S.written src.new) (S.place src.new) (S.faults src.new)) }
     ensures further { OnOk result (input.old.place + length word.now ≡ input.new.place) }
+    ensures exact { (w : Literal) (ps : List Part) → depth ps ≤ max_depth →
+        Goes (fault_of result) input.old (S.left src.old) (behind_word word.now w ps) (told_behind word.now w) input.new (S.left src.new) ps }
 {
     for letter in word {
         match input.need(src) {
@@ -72,9 +80,14 @@ pub fn pass_mark<S: Source>(input: &mut Input, src: &mut S) -> Result<(), JsonFa
     ensures moves { Moves (fault_of result)
         (S.sure src.old) input.old (lent (S.left src.old) (S.written src.old) (S.place src.old) (S.faults src.old))
         (S.sure src.new) input.new (lent (S.left src.new) (S.written src.new) (S.place src.new) (S.faults src.new)) }
+    ensures exact { (ps : List Part) → depth ps ≤ max_depth → Goes (fault_of result) input.old (S.left src.old) (mark ∷ ps) [] input.new (S.left src.new) ps }
 {
     match input.peek(src)? {
-        Some(0xEF) => pass_word(input, src, b"\xEF\xBB\xBF"),
-        _ => Ok(()),
+        None => Ok(()),
+        Some(0xEF) => {
+            input.pass(1);
+            pass_word(input, src, b"\xBB\xBF")
+        }
+        Some(_) => Ok(()),
     }
 }

@@ -1,7 +1,14 @@
 // Values.
-ghost use Rattle.std.specs.Prelude.{◌≡◌, ℕ, ◌<◌, ◌≤◌, ◌⊎◌, [], ◌∷◌, ◌++◌, length, IfOk, IfErr, OnOk};
+ghost use Rattle.std.specs.Prelude.{◌≡◌, ◌||◌, ◌==◌, ℕ, ◌<◌, ◌≤◌, ◌⊎◌, List, [], ◌∷◌, ◌++◌, true, length, IfOk, IfErr, OnOk};
+ghost use Rattle.prof_grammar.specs.Event.{number};
+ghost use Rattle.prof_grammar.specs.Machine as machine;
+ghost use Rattle.prof_grammar.specs.Machine.{Part, class, step};
 ghost use Rattle.prof_json.specs.Ahead.{IsNext, Passes};
-ghost use Rattle.prof_json.specs.Kept.{Adds};
+ghost use Rattle.prof_json.specs.Bytes as bytes_spec;
+ghost use Rattle.prof_json.specs.Writes.{Writes};
+ghost use Rattle.prof_json.specs.Gives.{told_by, parts_behind};
+ghost use Rattle.prof_json.specs.Kept.{Kept, Adds, Gains};
+ghost use Rattle.prof_json.specs.Parts.{behind};
 ghost use Rattle.prof_json.specs.Numbers.{IsNumeral};
 ghost use Rattle.prof_json.specs.Step.{BeginsValue};
 ghost use Rattle.prof_json.specs.Moves.{Moves, lent, fault_of};
@@ -10,6 +17,7 @@ use crate::behind::may_follow;
 use crate::buffer::Buffer;
 use crate::input::Input;
 use crate::number::read_number;
+use crate::scan::is_digit;
 use crate::string::read_string;
 use crate::token::pass_word;
 use crate::{Bracket, Event, JsonFault};
@@ -28,6 +36,7 @@ fn open_bracket(
     requires few { length brackets.old.items ≤ 256 }
     ensures ok { OnOk result ((Passes 1 input.old input.new) × (brackets.new.items ≡ brackets.old.items ++ bracket ∷ []) × (length brackets.new.items ≤ 256)) }
     ensures err { IfErr result (λ fault. (input.new ≡ input.old) × ((fault ≡ JsonFault.NoMemory) ⊎ (fault ≡ JsonFault.TooDeep input.old.place))) }
+    ensures deep { IfErr result (λ fault. (fault ≡ JsonFault.NoMemory) ⊎ ((fault ≡ JsonFault.TooDeep input.old.place) × (length brackets.old.items ≡ 256))) }
 {
     if brackets.len() == MOST_DEEP {
         return Err(input.deep());
@@ -39,6 +48,13 @@ fn open_bracket(
     Ok(())
 }
 
+/// Whether the byte begins a number.
+fn begins_number(byte: u8) -> bool
+    ensures { result ≡ (byte == 45) || bytes_spec.is_digit byte }
+{
+    byte == b'-' || is_digit(byte)
+}
+
 /// Reads a number, whose first byte is shown, up to a byte that may stand behind it.
 fn read_whole_number<S: Source>(
     input: &mut Input,
@@ -47,12 +63,15 @@ fn read_whole_number<S: Source>(
     text: &mut Buffer,
     first: u8,
 ) -> Result<(), JsonFault>
-    requires { IsNext first input.old }
+    requires next { IsNext first input.old }
+    requires begins { (first ≡ 45) ⊎ (bytes_spec.is_digit first ≡ true) }
     ensures moves { Moves (fault_of result)
         (S.sure src.old) input.old (lent (S.left src.old) (S.written src.old) (S.place src.old) (S.faults src.old))
         (S.sure src.new) input.new (lent (S.left src.new) (S.written src.new) (S.place src.new) (S.faults src.new)) }
     ensures text { OnOk result (Adds IsNumeral text.old text.new) }
     ensures further { OnOk result (input.old.place < input.new.place) }
+    ensures exact { (begun : Kept) (qs : List Part) → step qs (class first) first ≡ machine.begin_value (class first) first (behind brackets.now) → Gains begun [] text.old → length brackets.now ≤ 256 →
+        Writes (fault_of result) begun input.old (S.left src.old) qs (λ t. number t ∷ []) input.new (S.left src.new) text.new (λ t. behind brackets.now) }
 {
     let behind = read_number(input, src, text, first)?;
     if may_follow(brackets, behind) {
@@ -76,6 +95,8 @@ pub fn begin_value<S: Source>(
         (S.sure src.old) input.old (lent (S.left src.old) (S.written src.old) (S.place src.old) (S.faults src.old))
         (S.sure src.new) input.new (lent (S.left src.new) (S.written src.new) (S.place src.new) (S.faults src.new)) }
     ensures ok { IfOk result (λ e. BeginsValue brackets.old.items e brackets.new.items input.old input.new text.old text.new) }
+    ensures exact { (begun : Kept) (qs : List Part) → step qs (class first) first ≡ machine.begin_value (class first) first (behind brackets.old.items) → Gains begun [] text.old →
+        Writes (fault_of result) begun input.old (S.left src.old) qs (told_by result) input.new (S.left src.new) text.new (λ t. parts_behind result brackets.new.items) }
 {
     match first {
         b'[' => {
@@ -103,7 +124,7 @@ pub fn begin_value<S: Source>(
             pass_word(input, src, b"null")?;
             Ok(Event::Null)
         }
-        b'-' | b'0'..=b'9' => {
+        _ if begins_number(first) => {
             read_whole_number(input, src, brackets, text, first)?;
             Ok(Event::Number)
         }

@@ -12,7 +12,7 @@ use Rattle.prof_path.specs.declared.checking.PushRefusal.TheVariants.{FuncOut, E
 use Rattle.prof_path.specs.Shown.{funcs}
 use Rattle.prof_path.specs.Rewriting.{rewrite, rewrite_all}
 use Rattle.prof_path.specs.Terms.{terms_of}
-use Rattle.prof_path.specs.Finals.{final}
+use Rattle.prof_path.specs.Finals.{final, occurs_in}
 use Rattle.prof_path.specs.Refusals.{refusal_of}
 
 abbrev native_func : ℕ → Option ℕ → Func
@@ -32,6 +32,7 @@ p_tables = record {
   funcs = native_func 0 None ∷ native_func 1 (Some 0) ∷ native_func 2 (Some 0) ∷ record { name = 3; is_js = true; relevant_for_js = false; resource = None; file = None } ∷ [];
   frames = [];
   stacks = row None 0 0 ∷ row (Some 0) 1 0 ∷ row (Some 1) 2 0 ∷ row (Some 2) 1 0 ∷ row (Some 3) 3 0 ∷ row None 3 0 ∷ [];
+  stack_frames = [];
   categories = 1;
   default = 0;
 }
@@ -44,6 +45,7 @@ q_tables = record {
   funcs = native_func 0 None ∷ native_func 1 (Some 0) ∷ native_func 2 (Some 0) ∷ [];
   frames = [];
   stacks = row None 0 0 ∷ row (Some 0) 1 1 ∷ row (Some 0) 2 2 ∷ [];
+  stack_frames = [];
   categories = 3;
   default = 0;
 }
@@ -167,3 +169,28 @@ first_func_out = refl
 
 empty_path : refusal_of p_tables (FocusSubtree Js [] true) ≡ Some EmptyPath
 empty_path = refl
+
+-- each kind leaves the empty path empty
+of_nothing : map (λ t. rewrite p_tables t [] [] (pos 0)) (MergeFunction 0 ∷ MergeCallNode Combined (0 ∷ []) ∷ DropFunction 0 ∷ FocusSubtree Combined (0 ∷ []) false ∷ FocusSubtree Combined (0 ∷ []) true ∷ FocusFunction 0 ∷ FocusCategory 0 ∷ CollapseResource Combined 0 ∷ CollapseDirectRecursion Combined 0 ∷ CollapseRecursion 0 ∷ CollapseFunctionSubtree 0 ∷ FilterSamples [] ∷ []) ≡ [] ∷ [] ∷ [] ∷ [] ∷ [] ∷ [] ∷ [] ∷ [] ∷ [] ∷ [] ∷ [] ∷ [] ∷ []
+of_nothing = refl
+
+-- `Run`, in the file `lib.js` and of the resource `app`
+abbrev run_tables : SharedTables
+run_tables = record {
+  strings = (82 ∷ 117 ∷ 110 ∷ []) ∷ (108 ∷ 105 ∷ 98 ∷ 46 ∷ 106 ∷ 115 ∷ []) ∷ (97 ∷ 112 ∷ 112 ∷ []) ∷ [];
+  resources = 2 ∷ [];
+  funcs = record { name = 0; is_js = false; relevant_for_js = false; resource = Some 0; file = Some 1 } ∷ [];
+  frames = [];
+  stacks = [];
+  stack_frames = [];
+  categories = 1;
+  default = 0;
+}
+
+-- `rU, LIB.,App,runlib`: a term is met in the name, in the file and in the resource, and not across two of them
+met_terms : map (λ term. occurs_in run_tables term 0) (terms_of (114 ∷ 85 ∷ 44 ∷ 32 ∷ 76 ∷ 73 ∷ 66 ∷ 46 ∷ 44 ∷ 65 ∷ 112 ∷ 112 ∷ 44 ∷ 114 ∷ 117 ∷ 110 ∷ 108 ∷ 105 ∷ 98 ∷ [])) ≡ true ∷ true ∷ true ∷ false ∷ []
+met_terms = refl
+
+-- the collapsed resource has the resource's name, and no file
+met_in_collapsed : map (λ term. occurs_in run_tables term 1) (terms_of (114 ∷ 85 ∷ 44 ∷ 76 ∷ 73 ∷ 66 ∷ 44 ∷ 65 ∷ 112 ∷ [])) ≡ false ∷ false ∷ true ∷ []
+met_in_collapsed = refl

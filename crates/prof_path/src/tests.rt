@@ -1,3 +1,4 @@
+//! Copies of lists and views, terms, and paths of a small thread.
 use crate::{
     FuncPath, Implementation, Range, Span, SpanList, Step, StepList, TermList, Transform, View,
     terms,
@@ -5,6 +6,9 @@ use crate::{
 use prof_io::Text;
 use std::alloc::Global;
 use std::test::Fail;
+
+mod rewritten;
+mod small;
 
 fn text_of(alloc: Global, text: &str) -> Result<Text, Fail> {
     let mut made = Text::new(alloc);

@@ -1,8 +1,12 @@
-pub mod Marks
-pub mod Hashing
-pub mod Refusals
-pub mod Feeding
-pub mod Keeping
 pub mod Ranges
+pub mod Gathered
+pub mod Columns
+pub mod Raw
 pub mod Bases
+pub mod Built
 pub mod Causes
+pub mod Refusals
+pub mod Names
+pub mod Fields
+pub mod SampleNames
+pub mod Named

@@ -1,16 +1,26 @@
 //! The profile of what was gathered, or the first check that fails.
-ghost use Rattle.std.specs.Prelude.{◌≡◌, ◌≤◌, ◌<◌, None, IfOk, OnOk, IfErr, map, vec_len, length, All};
+ghost use Rattle.std.specs.Prelude.{◌≡◌, ◌≤◌, ◌<◌, ℕ, List, true, Option, None, IfOk, IfErr, IfSome, map, vec_len, length, codes, All};
+ghost use Rattle.std.specs.Option.{option_map};
 ghost use Rattle.prof_tables.specs.Profiles.{CountsIn};
-ghost use Rattle.prof_read.specs.Bases.{IsBase, IsBuilding};
+ghost use Rattle.prof_tables.specs.Checks.{Passes, named};
+ghost use Rattle.prof_grammar.specs.Value.{Value, Members, field};
+ghost use Rattle.prof_layout.specs.Lists.{is_object, first_unfit};
+ghost use Rattle.prof_layout.specs.Tables.{most_strings};
+ghost use Rattle.prof_layout.specs.Profile as layout;
+ghost use Rattle.prof_gather.specs.Taking.{IsFound, IsFoundIn};
+ghost use Rattle.prof_read.specs.Gathered.{AreParts, AreShared, AreThread, AreThreads, IsTextList, IsCategoryList};
+ghost use Rattle.prof_read.specs.Built.{Reads, ReadsAs};
+ghost use Rattle.prof_read.specs.Raw.{HoldsStrings, counting_texts, counting_fault};
+ghost use Rattle.prof_read.specs.Bases.{IsBase, IsBaseOf, AreCounts, StandsOn, IsBuilding};
 
 use crate::ReadRefusal;
-use crate::categories::CategoryList;
-use crate::objects::Found;
+use crate::lists::{CategoryList, TextList, ThreadList};
 use crate::parts::{Meta, ProfileParts};
 use crate::raw::{HeldStrings, held_strings, raw_shared, raw_thread};
 use crate::shared::SharedTables;
-use crate::texts::{TextList, whole};
-use crate::threads::{ThreadList, ThreadParts};
+use crate::texts::whole;
+use crate::threads::ThreadParts;
+use prof_gather::Found;
 use prof_io::{NoMemory, Text};
 use prof_tables::{
     Broken, Column, ListFault, Profile, Rule, Shared, State, Strings, Table, Thread,
@@ -20,7 +30,7 @@ use std::rc::Rc;
 
 /// The check of a list.
 fn check(table: Table, column: Column, fault: Option<ListFault>) -> Result<(), Broken>
-    ensures { OnOk result (fault ≡ None) }
+    ensures { Passes result (named None table column fault) }
 {
     match fault {
         None => Ok(()),
@@ -36,7 +46,7 @@ fn check(table: Table, column: Column, fault: Option<ListFault>) -> Result<(), B
 
 /// The text is no profile.
 fn unknown_format() -> ReadRefusal
-    ensures { IsBuilding result }
+    ensures { result ≡ ReadRefusal.Broken layout.unknown_format }
 {
     ReadRefusal::Broken(Broken {
         rule: Rule::UnknownFormat,
@@ -56,7 +66,8 @@ enum Base {
 
 /// The list of strings for the threads that have none.
 fn common_strings(alloc: Global, list: TextList) -> Result<Option<Rc<Strings>>, ReadRefusal>
-    ensures { IfErr result IsBuilding }
+    ensures err { IfErr result IsBuilding }
+    ensures strings { (member : Option Value) → IsTextList member list → Reads (λ strings. option_map (λ s. s.value) strings) result (layout.common_broken member) (layout.common_of member) }
 {
     if list.state == State::Absent {
         return Ok(None);
@@ -76,6 +87,7 @@ fn base_of(
     requires { default < categories }
     ensures ok { IfOk result (IsBase categories default) }
     ensures err { IfErr result IsBuilding }
+    ensures base { (v : Value) → AreCounts v categories default → IsFoundIn AreShared (field (codes "shared") v) shared → ReadsAs (IsBaseOf v) result (layout.base_broken v) }
 {
     let Found::Object(tables) = shared else {
         return Ok(Base::Own(None));
@@ -94,7 +106,10 @@ fn thread_strings(
     alloc: Global,
     own: TextList,
     common: &Option<Rc<Strings>>,
-) -> Result<HeldStrings, NoMemory> {
+) -> Result<HeldStrings, NoMemory>
+    ensures { IfOk result (λ held. (texts : Option (List (List ℕ))) (member : Option Value) → option_map (λ s. s.value) common.now ≡ texts → IfSome texts (λ strings. length strings ≤ most_strings)
+        → IsTextList member own → HoldsStrings (counting_texts texts member) (counting_fault texts member) held) }
+{
     match common {
         Some(strings) if own.state == State::Absent => {
             let strings = strings.clone()?;
@@ -120,6 +135,7 @@ fn build_thread(
     requires default { default < categories }
     ensures ok { IfOk result (CountsIn categories default) }
     ensures err { IfErr result IsBuilding }
+    ensures thread { (v : Value) (ms : Members) → StandsOn v categories default base.now → AreThread ms parts → Reads (λ t. t) result (layout.thread_fails v number (Value.object ms)) (layout.thread_tables v (Value.object ms)) }
 {
     let own = std::mem::replace(&mut parts.shared.strings, TextList::absent(alloc));
     match base {
@@ -153,6 +169,8 @@ fn threads_of(
     ensures few { IfOk result (λ built. vec_len built ≤ 1024) }
     ensures counts { IfOk result (λ built. All (CountsIn categories default) (map (λ t. t.value) built.items)) }
     ensures err { IfErr result IsBuilding }
+    ensures threads { (v : Value) (vs : List Value) → StandsOn v categories default base.now → first_unfit is_object vs ≡ None → AreThreads vs threads.items
+        → Reads (λ built. map (λ t. t.value) built.items) result (layout.first_thread (layout.thread_fails v) 0 vs) (map (layout.thread_tables v) vs) }
 {
     let mut built = Vec::new(alloc);
     for parts in threads {
@@ -168,18 +186,19 @@ fn threads_of(
 fn categories_of(alloc: Global, list: CategoryList) -> Result<(Vec<Text>, u32), ReadRefusal>
     ensures ok { IfOk result (λ r. (r.1 < vec_len r.0) × (vec_len r.0 ≤ 65538)) }
     ensures err { IfErr result IsBuilding }
+    ensures categories { (v : Value) → IsCategoryList (layout.categories_member v) list → Reads {Y = List (List ℕ) × ℕ} (λ r. (r.0.items, r.1)) result (layout.categories_broken v) (layout.category_names v, layout.default_category v) }
 {
     check(Table::Meta, Column::Categories, list.fault())?;
     let categories = list.finish(alloc)?;
     Ok(categories)
 }
 
-/// The profile of what was gathered, or the first check that fails. Where the text's value is no object there is nothing
-/// gathered.
-pub fn profile_of(alloc: Global, parts: Option<ProfileParts>) -> Result<Profile, ReadRefusal>
-    ensures { IfErr result IsBuilding }
+/// The profile of what was gathered of the members of a text's value, or the first check that fails.
+pub fn profile_of(alloc: Global, parts: Found<ProfileParts>) -> Result<Profile, ReadRefusal>
+    ensures building { IfErr result IsBuilding }
+    ensures profile { (v : Value) → IsFound AreParts v parts → Reads (λ p. p) result (layout.broken v) (layout.profile_of v) }
 {
-    let Some(parts) = parts else {
+    let Found::Object(parts) = parts else {
         return Err(unknown_format());
     };
     let ProfileParts {
@@ -192,7 +211,6 @@ pub fn profile_of(alloc: Global, parts: Option<ProfileParts>) -> Result<Profile,
     };
     let Meta {
         processed,
-        gecko: _,
         categories,
     } = meta;
     if !processed {

@@ -1,14 +1,22 @@
 //! The list of categories.
-ghost use Rattle.std.specs.Prelude.{◌≡◌, ◌<◌, ◌≤◌, OnOk, IfOk, IfErr, vec_len};
+ghost use Rattle.std.specs.Prelude.{◌≡◌, false, ◌<◌, ◌≤◌, ◌∷◌, ◌++◌, [], OnOk, IfOk, IfErr, IfSome, IfNone, Option, Some, None, codes, map, length, unwrap_or, string_bytes, vec_len, if◌then◌else◌};
+ghost use Rattle.std.specs.Option.{option_or, option_map};
+ghost use Rattle.prof_grammar.specs.Value.{Value, same_text};
+ghost use Rattle.prof_layout.specs.Lists.{member_text, items_of, first_where, optional_list_fault};
+ghost use Rattle.prof_layout.specs.Profile as layout;
+ghost use Rattle.prof_gather.specs.Taking.{Reads};
+ghost use Rattle.prof_read.specs.Gathered.{IsCategoryList};
+ghost use Rattle.prof_read.specs.Columns.{IsCategoryAdded};
+ghost use Rattle.prof_read.specs.Named.{category_member_name};
 ghost use Rattle.std.specs.Option.{ForSome};
-ghost use Rattle.prof_read.specs.Feeding.{IsWithin, IsBegun, Passes, Finishes, Refuses, in_member};
+ghost use Rattle.prof_gather.specs.Feeding.{IsWithin, IsBegun, Passes, Finishes, Refuses, in_member};
 
-use crate::ReadRefusal;
 use crate::columns::state_of;
-use crate::feed::Feed;
-use crate::hashed::Start;
-use crate::objects::{FromItems, FromMembers, array, members, skip_behind};
+use crate::lists::CategoryList;
 use crate::texts::{text, whole};
+use prof_gather::{
+    Feed, FromItems, FromMembers, GatherRefusal, Start, array, members, skip_behind,
+};
 use prof_io::{NoMemory, Source, Text};
 use prof_json::Event;
 use prof_tables::{ListFault, Rule, State};
@@ -29,7 +37,10 @@ enum CategoryMember {
     Color,
 }
 
-fn category_member(name: &str) -> Option<CategoryMember> {
+fn category_member(name: &str) -> Option<CategoryMember>
+    ensures some { IfSome result (λ m. name.now ≡ category_member_name m) }
+    ensures none { IfNone result ((m : CategoryMember) → same_text name.now (category_member_name m) ≡ false) }
+{
     match name {
         "name" => Some(CategoryMember::Name),
         "color" => Some(CategoryMember::Color),
@@ -38,9 +49,10 @@ fn category_member(name: &str) -> Option<CategoryMember> {
 }
 
 /// Reads a member's value, and says whether it is the string `grey`.
-fn is_grey<R: Source, W: Start>(alloc: Global, feed: &mut Feed<R, W>) -> Result<bool, ReadRefusal>
+fn is_grey<R: Source, W: Start>(alloc: Global, feed: &mut Feed<R, W>) -> Result<bool, GatherRefusal>
     requires { IsWithin in_member feed.old }
     ensures ok { OnOk result (Passes feed.old feed.new) }
+    ensures grey { IfOk result (λ b. (v : Value) × Reads feed.old feed.new v × (b ≡ same_text (member_text (Some v)) (codes "grey"))) }
     ensures err { IfErr result (λ r. Refuses r feed.new) }
 {
     let first = feed.next(alloc)?;
@@ -54,6 +66,10 @@ fn is_grey<R: Source, W: Start>(alloc: Global, feed: &mut Feed<R, W>) -> Result<
 }
 
 impl FromMembers for Category {
+    ghost use Rattle.prof_read.specs.Gathered.{AreCategoryMembers};
+
+    ghost is = { λ ms c. AreCategoryMembers ms c };
+
     fn none(_alloc: Global) -> Self {
         Category {
             name: None,
@@ -65,7 +81,7 @@ impl FromMembers for Category {
         &mut self,
         alloc: Global,
         feed: &mut Feed<R, W>,
-    ) -> Result<(), ReadRefusal> {
+    ) -> Result<(), GatherRefusal> {
         match category_member(feed.name()) {
             Some(CategoryMember::Name) => self.name = text(alloc, feed)?,
             Some(CategoryMember::Color) => self.grey = is_grey(alloc, feed)?,
@@ -75,20 +91,10 @@ impl FromMembers for Category {
     }
 }
 
-/// The list of categories that is gathered: at most one more than it may have. `bad` is the first row that is no object
-/// with a string name, where the empty name stands, and `grey` is the first that is grey.
-#[derive(Drop)]
-pub struct CategoryList {
-    state: State,
-    names: Vec<Text>,
-    bad: Option<u32>,
-    grey: Option<u32>,
-    ghost few: { vec_len names ≤ 65537 },
-    ghost named: { ForSome grey (λ row. row < vec_len names) },
-}
-
 impl CategoryList {
-    pub fn absent(alloc: Global) -> Self {
+    pub fn absent(alloc: Global) -> Self
+        ensures { IsCategoryList None result }
+    {
         CategoryList {
             state: State::Absent,
             names: Vec::new(alloc),
@@ -98,7 +104,9 @@ impl CategoryList {
     }
 
     /// The first rule that the list breaks.
-    pub fn fault(&self) -> Option<ListFault> {
+    pub fn fault(&self) -> Option<ListFault>
+        ensures { (member : Option Value) → IsCategoryList member self.now → result ≡ optional_list_fault layout.is_category layout.most_categories member }
+    {
         match self.state {
             State::Absent => None,
             State::NotArray => Some(whole(Rule::WrongKind)),
@@ -115,6 +123,7 @@ impl CategoryList {
     /// Adds a row.
     fn add(&mut self, alloc: Global, name: Option<String>, grey: bool) -> Result<(), NoMemory>
         requires { vec_len self.old.names ≤ 65536 }
+        ensures { OnOk result (IsCategoryAdded (option_map string_bytes name) grey self.old self.new) }
     {
         let row = self.names.len() as u32;
         let mut text = Text::new(alloc);
@@ -135,7 +144,10 @@ impl CategoryList {
 
     /// The names of the categories and the default, which is added after the last where none is grey.
     pub fn finish(self, alloc: Global) -> Result<(Vec<Text>, u32), NoMemory>
-        ensures { IfOk result (λ r. (r.1 < vec_len r.0) × (vec_len r.0 ≤ 65538)) }
+        ensures within { IfOk result (λ r. (r.1 < vec_len r.0) × (vec_len r.0 ≤ 65538)) }
+        ensures is { IfOk result (λ r. (member : Option Value) → IsCategoryList member self → optional_list_fault layout.is_category layout.most_categories member ≡ None
+            → (r.0.items ≡ layout.names_with (map layout.category_name (items_of member)) (first_where layout.is_grey 0 (items_of member)))
+            × (r.1 ≡ unwrap_or (first_where layout.is_grey 0 (items_of member)) (length (items_of member)))) }
     {
         let CategoryList {
             mut names,
@@ -154,12 +166,16 @@ impl CategoryList {
 }
 
 impl FromItems for CategoryList {
+    ghost use Rattle.prof_read.specs.Columns.{IsCategoryListOf};
+
+    ghost is = { λ first vs l. IsCategoryListOf first vs l };
+
     fn take_item<R: Source, W: Start>(
         &mut self,
         alloc: Global,
         feed: &mut Feed<R, W>,
         first: Event,
-    ) -> Result<(), ReadRefusal> {
+    ) -> Result<(), GatherRefusal> {
         if self.names.len() > MOST_CATEGORIES as usize {
             return skip_behind(alloc, feed, first);
         }
@@ -182,9 +198,10 @@ impl FromItems for CategoryList {
 pub fn category_list<R: Source, W: Start>(
     alloc: Global,
     feed: &mut Feed<R, W>,
-) -> Result<CategoryList, ReadRefusal>
+) -> Result<CategoryList, GatherRefusal>
     requires { IsWithin in_member feed.old }
     ensures ok { OnOk result (Passes feed.old feed.new) }
+    ensures list { IfOk result (λ l. (v : Value) × Reads feed.old feed.new v × IsCategoryList (Some v) l) }
     ensures err { IfErr result (λ r. Refuses r feed.new) }
 {
     let mut list = CategoryList::absent(alloc);

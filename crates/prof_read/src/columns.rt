@@ -1,14 +1,18 @@
 //! Columns, gathered out of members' values.
-ghost use Rattle.std.specs.Prelude.{◌≡◌, ◌≤◌, OnOk, IfErr};
-ghost use Rattle.prof_read.specs.Feeding.{IsWithin, IsBegun, Passes, Finishes, Refuses, in_member};
+ghost use Rattle.std.specs.Prelude.{◌≡◌, ◌≤◌, ◌∷◌, ◌++◌, [], List, Some, None, OnOk, IfOk, IfErr};
+ghost use Rattle.prof_grammar.specs.Value.{Value};
+ghost use Rattle.prof_layout.specs.Columns.{Cell as RawCell};
+ghost use Rattle.prof_layout.specs.Tables.{said_by};
+ghost use Rattle.prof_gather.specs.Taking.{Reads};
+ghost use Rattle.prof_read.specs.Gathered.{kept_column};
+ghost use Rattle.prof_read.specs.Columns.{kept_by, state_for, IsGatheredOf};
+ghost use Rattle.prof_gather.specs.Feeding.{IsWithin, IsBegun, Passes, Finishes, Refuses, in_member};
 
-use crate::ReadRefusal;
-use crate::cells::{Cell, Reading, cell};
-use crate::feed::Feed;
-use crate::hashed::Start;
-use crate::objects::{FromItems, Kind, array, skip_behind};
+use crate::cells::{Cell, cell};
+use prof_gather::{Feed, FromItems, GatherRefusal, Kind, Start, array, skip_behind};
 use prof_io::{NoMemory, Source};
 use prof_json::Event;
+use prof_layout::Reading;
 use prof_tables::{BadCell, RawColumn, State, TableLength};
 use prof_time::read_exact;
 use std::alloc::Global;
@@ -23,7 +27,9 @@ pub const MOST_ROWS: u32 = 1 << 22;
 pub const MOST_SAMPLES: u32 = 1 << 23;
 
 /// A column without cells.
-pub fn empty_column(alloc: Global, state: State) -> RawColumn {
+pub fn empty_column(alloc: Global, state: State) -> RawColumn
+    ensures { result ≡ record { state = state; cells = []; bad = None } }
+{
     RawColumn {
         state,
         values: Vec::new(alloc),
@@ -32,7 +38,9 @@ pub fn empty_column(alloc: Global, state: State) -> RawColumn {
 }
 
 /// Adds a cell, unless the column has more than the most rows already.
-pub fn add_cell(column: &mut RawColumn, most: u32, cell: Cell) -> Result<(), NoMemory> {
+pub fn add_cell(column: &mut RawColumn, most: u32, cell: Cell) -> Result<(), NoMemory>
+    ensures { OnOk result ((read : Value → RawCell) (vs : List Value) (v : Value) → cell ≡ read v → column.old ≡ kept_by read most vs → column.new ≡ kept_by read most (vs ++ v ∷ [])) }
+{
     if column.values.len() > most as usize {
         return Ok(());
     }
@@ -50,7 +58,9 @@ pub fn add_cell(column: &mut RawColumn, most: u32, cell: Cell) -> Result<(), NoM
 }
 
 /// The state of a column by its member's value. An optional column that is null counts as absent.
-pub fn state_of(kind: Kind, needed: bool) -> State {
+pub fn state_of(kind: Kind, needed: bool) -> State
+    ensures { result ≡ state_for needed kind }
+{
     match kind {
         Kind::Array => State::Array,
         Kind::Null if !needed => State::Absent,
@@ -67,12 +77,16 @@ struct Gathered {
 }
 
 impl FromItems for Gathered {
+    ghost use Rattle.prof_read.specs.Columns.{IsGatheredOf};
+
+    ghost is = { λ first vs g. IsGatheredOf first vs g };
+
     fn take_item<R: Source, W: Start>(
         &mut self,
         alloc: Global,
         feed: &mut Feed<R, W>,
         first: Event,
-    ) -> Result<(), ReadRefusal> {
+    ) -> Result<(), GatherRefusal> {
         let cell = cell(feed, self.reading, first);
         skip_behind(alloc, feed, first)?;
         add_cell(&mut self.column, self.most, cell)?;
@@ -87,9 +101,10 @@ pub fn column<R: Source, W: Start>(
     reading: Reading,
     needed: bool,
     most: u32,
-) -> Result<RawColumn, ReadRefusal>
+) -> Result<RawColumn, GatherRefusal>
     requires { IsWithin in_member feed.old }
     ensures ok { OnOk result (Passes feed.old feed.new) }
+    ensures column { IfOk result (λ c. (v : Value) × Reads feed.old feed.new v × (c ≡ kept_column most reading needed (Some v))) }
     ensures err { IfErr result (λ r. Refuses r feed.new) }
 {
     let mut gathered = Gathered {
@@ -107,9 +122,10 @@ pub fn column<R: Source, W: Start>(
 pub fn table_length<R: Source, W: Start>(
     alloc: Global,
     feed: &mut Feed<R, W>,
-) -> Result<TableLength, ReadRefusal>
+) -> Result<TableLength, GatherRefusal>
     requires { IsWithin in_member feed.old }
     ensures ok { OnOk result (Passes feed.old feed.new) }
+    ensures length { IfOk result (λ l. (v : Value) × Reads feed.old feed.new v × (l ≡ said_by (Some v))) }
     ensures err { IfErr result (λ r. Refuses r feed.new) }
 {
     let first = feed.next(alloc)?;

@@ -1,18 +1,25 @@
 //! The table of a thread's markers.
-ghost use Rattle.std.specs.Prelude.{◌≡◌, ◌≤◌, ◌<◌, ◌+◌, ◌^◌, OnOk, IfOk, IfErr, vec_len, length};
-ghost use Rattle.prof_read.specs.Feeding.{IsWithin, IsBegun, Passes, Finishes, Refuses, in_member};
+ghost use Rattle.std.specs.Prelude.{◌≡◌, ◌≤◌, ◌<◌, ◌+◌, ◌^◌, ◌∷◌, ◌++◌, [], List, Some, None, OnOk, IfOk, IfErr, IfSome, IfNone, vec_len, length, false};
+ghost use Rattle.prof_gather.specs.Feeding.{IsWithin, IsBegun, Passes, Finishes, Refuses, in_member};
+ghost use Rattle.prof_grammar.specs.Value.{Value, same_text};
+ghost use Rattle.prof_layout.specs.Markers.{data_texts};
+ghost use Rattle.prof_gather.specs.Taking.{Reads};
+ghost use Rattle.prof_read.specs.Gathered.{IsMarkerData};
 ghost use Rattle.prof_read.specs.Ranges.{AreRanges};
+ghost use Rattle.prof_read.specs.Columns.{IsMarkerDataOf};
+ghost use Rattle.prof_read.specs.Fields.{field_texts};
+ghost use Rattle.prof_read.specs.Named.{marker_name};
 
-use crate::ReadRefusal;
-use crate::cells::Reading;
 use crate::columns::{MOST_ROWS, add_cell, column, empty_column, state_of, table_length};
-use crate::feed::Feed;
-use crate::hashed::Start;
-use crate::objects::{FromItems, FromMembers, array, members, skip_behind};
+use crate::lists::MarkerData;
 use crate::texts::text;
 use indexmap::IndexMap;
+use prof_gather::{
+    Feed, FromItems, FromMembers, GatherRefusal, Start, array, members, skip_behind,
+};
 use prof_io::{NoMemory, Source, Text};
 use prof_json::Event;
+use prof_layout::Reading;
 use prof_tables::{RawColumn, State, TableLength};
 use std::alloc::Global;
 
@@ -24,6 +31,10 @@ struct MarkerFields {
 }
 
 impl FromMembers for MarkerFields {
+    ghost use Rattle.prof_read.specs.Fields.{AreFields};
+
+    ghost is = { λ ms f. AreFields ms f };
+
     fn none(alloc: Global) -> Self {
         MarkerFields {
             fields: IndexMap::new(alloc),
@@ -34,21 +45,12 @@ impl FromMembers for MarkerFields {
         &mut self,
         alloc: Global,
         feed: &mut Feed<R, W>,
-    ) -> Result<(), ReadRefusal> {
+    ) -> Result<(), GatherRefusal> {
         let name = String::from_str(alloc, feed.name())?;
         let value = text(alloc, feed)?;
         let _earlier = self.fields.insert(name, value)?;
         Ok(())
     }
-}
-
-/// The column `data`: the texts of all rows, and the range of each row in them.
-#[derive(Drop)]
-pub struct MarkerData {
-    pub column: RawColumn,
-    pub texts: Vec<Text>,
-    pub ranges: Vec<(u32, u32)>,
-    ghost within: { AreRanges (vec_len texts) ranges.items },
 }
 
 /// How many texts there are. A profile's text is too short for more than a u32 counts.
@@ -63,7 +65,8 @@ fn text_count(texts: &[Text]) -> Result<u32, NoMemory>
 
 /// Adds a text behind the others.
 fn add_text(alloc: Global, texts: &mut Vec<Text>, text: &str) -> Result<(), NoMemory>
-    ensures { vec_len texts.old ≤ vec_len texts.new }
+    ensures text { OnOk result (texts.new.items ≡ texts.old.items ++ text.now ∷ []) }
+    ensures grows { vec_len texts.old ≤ vec_len texts.new }
 {
     let mut copy = Text::new(alloc);
     copy.push_str(text)?;
@@ -77,7 +80,8 @@ fn add_texts(
     texts: &mut Vec<Text>,
     fields: &MarkerFields,
 ) -> Result<(u32, u32), NoMemory>
-    ensures range { IfOk result (λ r. (r.0 ≤ r.1) × (r.1 ≤ vec_len texts.new)) }
+    ensures texts { OnOk result (texts.new.items ≡ texts.old.items ++ field_texts fields.now) }
+    ensures range { IfOk result (λ r. (r.0 ≡ vec_len texts.old) × (r.1 ≡ vec_len texts.new)) }
     ensures grows { vec_len texts.old ≤ vec_len texts.new }
 {
     let start = text_count(texts.as_slice())?;
@@ -91,7 +95,11 @@ fn add_texts(
 }
 
 impl MarkerData {
-    pub fn empty(alloc: Global, state: State) -> Self {
+    pub fn empty(alloc: Global, state: State) -> Self
+        ensures column { result.column ≡ record { state = state; cells = []; bad = None } }
+        ensures texts { result.texts.items ≡ [] }
+        ensures ranges { result.ranges.items ≡ [] }
+    {
         MarkerData {
             column: empty_column(alloc, state),
             texts: Vec::new(alloc),
@@ -100,7 +108,10 @@ impl MarkerData {
     }
 
     /// Adds a row with the texts of these fields, unless there are more than the most rows already.
-    fn add(&mut self, alloc: Global, fields: &MarkerFields) -> Result<(), NoMemory> {
+    fn add(&mut self, alloc: Global, fields: &MarkerFields) -> Result<(), NoMemory>
+        ensures { OnOk result ((v : Value) → data_texts v ≡ field_texts fields.now → (first : MarkerData) (vs : List Value)
+            → IsMarkerDataOf first vs self.old → IsMarkerDataOf first (vs ++ v ∷ []) self.new) }
+    {
         if self.ranges.len() > MOST_ROWS as usize {
             return Ok(());
         }
@@ -112,12 +123,16 @@ impl MarkerData {
 }
 
 impl FromItems for MarkerData {
+    ghost use Rattle.prof_read.specs.Columns.{IsMarkerDataOf};
+
+    ghost is = { λ first vs d. IsMarkerDataOf first vs d };
+
     fn take_item<R: Source, W: Start>(
         &mut self,
         alloc: Global,
         feed: &mut Feed<R, W>,
         first: Event,
-    ) -> Result<(), ReadRefusal> {
+    ) -> Result<(), GatherRefusal> {
         match first {
             Event::ObjectStart => {
                 let fields: MarkerFields = members(alloc, feed)?;
@@ -138,9 +153,10 @@ impl FromItems for MarkerData {
 fn marker_data<R: Source, W: Start>(
     alloc: Global,
     feed: &mut Feed<R, W>,
-) -> Result<MarkerData, ReadRefusal>
+) -> Result<MarkerData, GatherRefusal>
     requires { IsWithin in_member feed.old }
     ensures ok { OnOk result (Passes feed.old feed.new) }
+    ensures data { IfOk result (λ d. (v : Value) × Reads feed.old feed.new v × IsMarkerData (Some v) d) }
     ensures err { IfErr result (λ r. Refuses r feed.new) }
 {
     let mut data = MarkerData::empty(alloc, State::Array);
@@ -169,7 +185,10 @@ enum MarkerMember {
     Length,
 }
 
-fn marker_member(name: &str) -> Option<MarkerMember> {
+fn marker_member(name: &str) -> Option<MarkerMember>
+    ensures some { IfSome result (λ m. name.now ≡ marker_name m) }
+    ensures none { IfNone result ((m : MarkerMember) → same_text name.now (marker_name m) ≡ false) }
+{
     match name {
         "phase" => Some(MarkerMember::Phase),
         "name" => Some(MarkerMember::Name),
@@ -182,6 +201,10 @@ fn marker_member(name: &str) -> Option<MarkerMember> {
 }
 
 impl FromMembers for MarkerTable {
+    ghost use Rattle.prof_read.specs.Gathered.{AreMarkerColumns};
+
+    ghost is = { λ ms t. AreMarkerColumns ms t };
+
     fn none(alloc: Global) -> Self {
         MarkerTable {
             phase: empty_column(alloc, State::Absent),
@@ -197,7 +220,7 @@ impl FromMembers for MarkerTable {
         &mut self,
         alloc: Global,
         feed: &mut Feed<R, W>,
-    ) -> Result<(), ReadRefusal> {
+    ) -> Result<(), GatherRefusal> {
         match marker_member(feed.name()) {
             Some(MarkerMember::Phase) => {
                 self.phase = column(alloc, feed, Reading::Phase, true, MOST_ROWS)?

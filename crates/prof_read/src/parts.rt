@@ -1,47 +1,47 @@
 //! What is gathered of a whole text.
-ghost use Rattle.std.specs.Prelude.{◌≡◌, OnOk, IfErr, [], None};
-ghost use Rattle.std.specs.Io.KnownBytes.{IsAtEnd};
-ghost use Rattle.prof_read.specs.Feeding.{Refuses, IsFresh};
+ghost use Rattle.std.specs.Prelude.{◌≡◌, IfSome, IfNone, false};
+ghost use Rattle.prof_grammar.specs.Value.{same_text};
+ghost use Rattle.prof_read.specs.Named.{meta_name, profile_name};
 
-use crate::ReadRefusal;
-use crate::categories::{CategoryList, category_list};
-use crate::feed::Feed;
-use crate::hashed::Start;
-use crate::objects::{Found, FromMembers, members, object, skip_behind};
+use crate::categories::category_list;
+use crate::lists::{CategoryList, ThreadList};
 use crate::shared::SharedTables;
-use crate::threads::{ThreadList, thread_list};
+use crate::threads::thread_list;
+use prof_gather::{Feed, Found, FromMembers, GatherRefusal, Start, object};
 use prof_io::Source;
-use prof_json::Event;
 use std::alloc::Global;
 
-/// What is gathered of `meta`: the two versions, by which a profile's form is known, and the categories.
+/// What is gathered of `meta`: whether it says that the profile is processed, and the categories.
 #[derive(Drop)]
 pub struct Meta {
     pub processed: bool,
-    pub gecko: bool,
     pub categories: CategoryList,
 }
 
 enum MetaMember {
     ProcessedVersion,
-    GeckoVersion,
     Categories,
 }
 
-fn meta_member(name: &str) -> Option<MetaMember> {
+fn meta_member(name: &str) -> Option<MetaMember>
+    ensures some { IfSome result (λ m. name.now ≡ meta_name m) }
+    ensures none { IfNone result ((m : MetaMember) → same_text name.now (meta_name m) ≡ false) }
+{
     match name {
         "preprocessedProfileVersion" => Some(MetaMember::ProcessedVersion),
-        "version" => Some(MetaMember::GeckoVersion),
         "categories" => Some(MetaMember::Categories),
         _ => None,
     }
 }
 
 impl FromMembers for Meta {
+    ghost use Rattle.prof_read.specs.Gathered.{AreMeta};
+
+    ghost is = { λ ms m. AreMeta ms m };
+
     fn none(alloc: Global) -> Self {
         Meta {
             processed: false,
-            gecko: false,
             categories: CategoryList::absent(alloc),
         }
     }
@@ -50,15 +50,11 @@ impl FromMembers for Meta {
         &mut self,
         alloc: Global,
         feed: &mut Feed<R, W>,
-    ) -> Result<(), ReadRefusal> {
+    ) -> Result<(), GatherRefusal> {
         match meta_member(feed.name()) {
             Some(MetaMember::ProcessedVersion) => {
                 feed.skip_member(alloc)?;
                 self.processed = true;
-            }
-            Some(MetaMember::GeckoVersion) => {
-                feed.skip_member(alloc)?;
-                self.gecko = true;
             }
             Some(MetaMember::Categories) => self.categories = category_list(alloc, feed)?,
             None => feed.skip_member(alloc)?,
@@ -81,7 +77,10 @@ enum ProfileMember {
     Threads,
 }
 
-fn profile_member(name: &str) -> Option<ProfileMember> {
+fn profile_member(name: &str) -> Option<ProfileMember>
+    ensures some { IfSome result (λ m. name.now ≡ profile_name m) }
+    ensures none { IfNone result ((m : ProfileMember) → same_text name.now (profile_name m) ≡ false) }
+{
     match name {
         "meta" => Some(ProfileMember::Meta),
         "shared" => Some(ProfileMember::Shared),
@@ -91,6 +90,10 @@ fn profile_member(name: &str) -> Option<ProfileMember> {
 }
 
 impl FromMembers for ProfileParts {
+    ghost use Rattle.prof_read.specs.Gathered.{AreParts};
+
+    ghost is = { λ ms p. AreParts ms p };
+
     fn none(alloc: Global) -> Self {
         ProfileParts {
             meta: Found::Absent,
@@ -103,7 +106,7 @@ impl FromMembers for ProfileParts {
         &mut self,
         alloc: Global,
         feed: &mut Feed<R, W>,
-    ) -> Result<(), ReadRefusal> {
+    ) -> Result<(), GatherRefusal> {
         match profile_member(feed.name()) {
             Some(ProfileMember::Meta) => self.meta = object(alloc, feed)?,
             Some(ProfileMember::Shared) => self.shared = object(alloc, feed)?,
@@ -112,26 +115,4 @@ impl FromMembers for ProfileParts {
         }
         Ok(())
     }
-}
-
-/// Reads the value of the whole text, and the text's end. It gives none where that value is no object.
-pub fn profile_parts<R: Source, W: Start>(
-    alloc: Global,
-    feed: &mut Feed<R, W>,
-) -> Result<Option<ProfileParts>, ReadRefusal>
-    requires { IsFresh feed.old }
-    ensures ok { OnOk result (IsAtEnd feed.new.left) }
-    ensures sound { OnOk result (feed.new.fault ≡ None) }
-    ensures err { IfErr result (λ r. Refuses r feed.new) }
-{
-    let first = feed.next(alloc)?;
-    let parts = match first {
-        Event::ObjectStart => Some(members(alloc, feed)?),
-        _ => {
-            skip_behind(alloc, feed, first)?;
-            None
-        }
-    };
-    let _end = feed.next(alloc)?;
-    Ok(parts)
 }

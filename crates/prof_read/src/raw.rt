@@ -1,21 +1,36 @@
 //! Raw tables of what was gathered.
-ghost use Rattle.std.specs.Prelude.{IfOk, length};
+ghost use Rattle.std.specs.Prelude.{◌≡◌, List, ℕ, false, Option, Some, None, [], IfOk, length, codes, unwrap_or, string_bytes};
+ghost use Rattle.std.specs.Option.{option_map};
+ghost use Rattle.prof_grammar.specs.Value.{Value, Members, last_named};
+ghost use Rattle.prof_tables.specs.Checks.{most_funcs, most_rows, most_samples};
+ghost use Rattle.prof_layout.specs.declared.reading.Reading.TheVariants as reading;
+ghost use Rattle.prof_layout.specs.Columns.{capped, column_of, read_cell};
+ghost use Rattle.prof_layout.specs.Lists as layout_texts;
+ghost use Rattle.prof_layout.specs.Tables as layout;
+ghost use Rattle.prof_layout.specs.Kept as kept;
+ghost use Rattle.prof_gather.specs.Taking.{IsFoundIn};
+ghost use Rattle.prof_read.specs.Gathered.{IsTextList, AreResourceColumns, AreFuncColumns, AreFrameColumns, AreStackColumns, AreSampleColumns, AreMarkerColumns, AreShared, AreThread, AreWeights};
+ghost use Rattle.prof_read.specs.Raw.{AreResources, AreFuncs, AreFrames, AreStacks, AreSamples, AreMarkers, HoldsStrings, raw_over};
+ghost use Rattle.prof_tables.specs.declared.rule.ListFault.{ListFault};
+ghost use Rattle.prof_read.specs.declared.lists.TextList.{TextList};
 ghost use Rattle.prof_read.specs.Ranges.{AreRanges};
 
 use crate::columns::empty_column;
-use crate::markers::{MarkerData, MarkerTable};
-use crate::objects::{Found, FromMembers};
+use crate::lists::{MarkerData, TextList};
+use crate::markers::MarkerTable;
 use crate::samples::{SampleTable, Weights};
 use crate::shared::{FrameTable, FuncTable, ResourceTable, SharedTables, StackTable};
-use crate::texts::TextList;
 use crate::threads::ThreadParts;
+use prof_gather::{Found, FromMembers};
 use prof_io::{NoMemory, Text};
 use prof_tables::{ListFault, RawColumn, RawShared, RawThread, State, Strings, Unit};
 use std::alloc::Global;
 use std::rc::Rc;
 
 /// The columns of a table: none where it is absent, and where it is no object its first column says so.
-fn resource_columns(alloc: Global, table: Found<ResourceTable>) -> (bool, ResourceTable) {
+fn resource_columns(alloc: Global, table: Found<ResourceTable>) -> (bool, ResourceTable)
+    ensures { (table_ : Option Value) → IsFoundIn AreResourceColumns table_ table → AreResources table_ result }
+{
     match table {
         Found::Object(table) => (true, table),
         Found::Absent | Found::Null => (false, ResourceTable::none(alloc)),
@@ -27,7 +42,9 @@ fn resource_columns(alloc: Global, table: Found<ResourceTable>) -> (bool, Resour
     }
 }
 
-fn func_columns(alloc: Global, table: Found<FuncTable>) -> FuncTable {
+fn func_columns(alloc: Global, table: Found<FuncTable>) -> FuncTable
+    ensures { (table_ : Option Value) → IsFoundIn AreFuncColumns table_ table → AreFuncs table_ result }
+{
     match table {
         Found::Object(table) => table,
         Found::Absent => FuncTable::none(alloc),
@@ -39,7 +56,9 @@ fn func_columns(alloc: Global, table: Found<FuncTable>) -> FuncTable {
     }
 }
 
-fn frame_columns(alloc: Global, table: Found<FrameTable>) -> FrameTable {
+fn frame_columns(alloc: Global, table: Found<FrameTable>) -> FrameTable
+    ensures { (table_ : Option Value) → IsFoundIn AreFrameColumns table_ table → AreFrames table_ result }
+{
     match table {
         Found::Object(table) => table,
         Found::Absent => FrameTable::none(alloc),
@@ -51,7 +70,9 @@ fn frame_columns(alloc: Global, table: Found<FrameTable>) -> FrameTable {
     }
 }
 
-fn stack_columns(alloc: Global, table: Found<StackTable>) -> StackTable {
+fn stack_columns(alloc: Global, table: Found<StackTable>) -> StackTable
+    ensures { (table_ : Option Value) → IsFoundIn AreStackColumns table_ table → AreStacks table_ result }
+{
     match table {
         Found::Object(table) => table,
         Found::Absent => StackTable::none(alloc),
@@ -63,7 +84,9 @@ fn stack_columns(alloc: Global, table: Found<StackTable>) -> StackTable {
     }
 }
 
-fn sample_columns(alloc: Global, table: Found<SampleTable>) -> SampleTable {
+fn sample_columns(alloc: Global, table: Found<SampleTable>) -> SampleTable
+    ensures { (table_ : Option Value) → IsFoundIn AreSampleColumns table_ table → AreSamples table_ result }
+{
     match table {
         Found::Object(table) => table,
         Found::Absent => SampleTable::none(alloc),
@@ -76,7 +99,9 @@ fn sample_columns(alloc: Global, table: Found<SampleTable>) -> SampleTable {
 }
 
 /// The columns of the markers, and whether there are any.
-fn marker_columns(alloc: Global, table: Found<MarkerTable>) -> (bool, MarkerTable) {
+fn marker_columns(alloc: Global, table: Found<MarkerTable>) -> (bool, MarkerTable)
+    ensures { (table_ : Option Value) → IsFoundIn AreMarkerColumns table_ table → AreMarkers table_ result }
+{
     match table {
         Found::Object(table) => {
             let there = table.phase.state != State::Absent;
@@ -87,7 +112,10 @@ fn marker_columns(alloc: Global, table: Found<MarkerTable>) -> (bool, MarkerTabl
 }
 
 /// The times of the samples, and whether they are deltas: where both are there the times count.
-fn time_column(time: RawColumn, deltas: RawColumn) -> (RawColumn, bool) {
+fn time_column(time: RawColumn, deltas: RawColumn) -> (RawColumn, bool)
+    ensures { (table : Option Value) → time ≡ capped most_samples (layout.optional_cells reading.Time table (codes "time")) → deltas ≡ capped most_samples (layout.optional_cells reading.Time table (codes "timeDeltas"))
+        → (result.0 ≡ capped most_samples (layout.time_cells table)) × (result.1 ≡ layout.has_deltas table) }
+{
     if time.state == State::Absent && deltas.state != State::Absent {
         (deltas, true)
     } else {
@@ -95,7 +123,9 @@ fn time_column(time: RawColumn, deltas: RawColumn) -> (RawColumn, bool) {
     }
 }
 
-fn weight_column(weights: Weights, unit: Option<Unit>) -> RawColumn {
+fn weight_column(weights: Weights, unit: Option<Unit>) -> RawColumn
+    ensures { (member : Option Value) → AreWeights member weights → result ≡ capped most_samples (column_of (read_cell (layout.weight_reading unit)) false member) }
+{
     let Weights { counts, times } = weights;
     match unit {
         Some(Unit::Ns) => times,
@@ -110,7 +140,9 @@ pub struct HeldStrings {
     pub fault: Option<ListFault>,
 }
 
-pub fn held_strings(alloc: Global, list: TextList) -> Result<HeldStrings, NoMemory> {
+pub fn held_strings(alloc: Global, list: TextList) -> Result<HeldStrings, NoMemory>
+    ensures { IfOk result (λ held. (member : Option Value) → IsTextList member list → HoldsStrings (layout_texts.texts_of member) (layout.strings_fault member) held) }
+{
     let fault = list.fault();
     let TextList { texts, .. } = list;
     let strings = Strings::of(alloc, texts)?;
@@ -119,7 +151,9 @@ pub fn held_strings(alloc: Global, list: TextList) -> Result<HeldStrings, NoMemo
 }
 
 /// The raw tables that threads share, of what was gathered of them.
-pub fn raw_shared(alloc: Global, tables: SharedTables) -> Result<RawShared, NoMemory> {
+pub fn raw_shared(alloc: Global, tables: SharedTables) -> Result<RawShared, NoMemory>
+    ensures { IfOk result (λ raw. (ms : Members) → AreShared ms tables → raw ≡ kept.kept_shared (layout.raw_shared (Value.object ms))) }
+{
     let SharedTables {
         strings,
         resources,
@@ -153,13 +187,14 @@ pub fn raw_shared(alloc: Global, tables: SharedTables) -> Result<RawShared, NoMe
     })
 }
 
-/// The raw thread of what was gathered of it, over this list of strings.
+/// The raw thread of what was gathered of it, over this list of strings; its own list plays no part.
 pub fn raw_thread(
     alloc: Global,
     parts: ThreadParts,
     strings: HeldStrings,
 ) -> Result<RawThread, NoMemory>
-    ensures { IfOk result (λ raw. AreRanges (length raw.marker_texts) raw.marker_ranges) }
+    ensures ranges { IfOk result (λ raw. AreRanges (length raw.marker_texts) raw.marker_ranges) }
+    ensures raw { IfOk result (λ raw. (ms : Members) (own : TextList) (texts : List (List ℕ)) (fault : Option ListFault) → AreThread ms (record parts { shared = record parts.shared { strings = own } }) → HoldsStrings texts fault strings → raw ≡ raw_over texts fault ms) }
 {
     let ThreadParts {
         name,
@@ -242,7 +277,9 @@ pub fn raw_thread(
 }
 
 /// The name of a thread, which is empty where it is no string.
-fn thread_name(alloc: Global, name: Option<String>) -> Result<Text, NoMemory> {
+fn thread_name(alloc: Global, name: Option<String>) -> Result<Text, NoMemory>
+    ensures { IfOk result (λ text. text ≡ unwrap_or (option_map string_bytes name) []) }
+{
     let mut text = Text::new(alloc);
     if let Some(name) = name {
         text.push_str(name.as_str())?;

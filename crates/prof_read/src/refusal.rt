@@ -1,4 +1,5 @@
 //! Why a profile wasn't read.
+use prof_gather::GatherRefusal;
 use prof_io::NoMemory;
 use prof_json::JsonFault;
 use prof_tables::{Broken, BuildRefusal};
@@ -17,19 +18,17 @@ pub enum ReadRefusal {
     NoMemory,
 }
 
-impl From<JsonFault> for ReadRefusal {
+impl From<GatherRefusal> for ReadRefusal {
     ghost use Rattle.std.specs.Prelude.{◌≡◌};
-    ghost use Rattle.prof_read.specs.Refusals.{refusal_of};
+    ghost use Rattle.prof_read.specs.Refusals.{ungathered};
 
-    ghost from_gives = { λ fault refused. refused ≡ refusal_of fault };
+    ghost from_gives = { λ refused answer. answer ≡ ungathered refused };
 
-    fn from(fault: JsonFault) -> Self {
-        match fault {
-            JsonFault::ReadFault => ReadRefusal::ReadFault,
-            JsonFault::NoMemory => ReadRefusal::NoMemory,
-            JsonFault::NotJson { at } => ReadRefusal::Json(JsonFault::NotJson { at }),
-            JsonFault::TooDeep { at } => ReadRefusal::Json(JsonFault::TooDeep { at }),
-            JsonFault::TooLong => ReadRefusal::Json(JsonFault::TooLong),
+    fn from(refused: GatherRefusal) -> Self {
+        match refused {
+            GatherRefusal::Json(fault) => ReadRefusal::Json(fault),
+            GatherRefusal::ReadFault => ReadRefusal::ReadFault,
+            GatherRefusal::NoMemory => ReadRefusal::NoMemory,
         }
     }
 }

@@ -1,15 +1,19 @@
 //! The table of a thread's samples.
-ghost use Rattle.std.specs.Prelude.{OnOk, IfErr};
-ghost use Rattle.prof_read.specs.Feeding.{IsWithin, IsBegun, Passes, Finishes, Refuses, in_member};
+ghost use Rattle.std.specs.Prelude.{◌≡◌, false, Some, IfSome, OnOk, IfOk, IfErr};
+ghost use Rattle.std.specs.Option.{IfNone};
+ghost use Rattle.prof_grammar.specs.Value.{Value, same_text};
+ghost use Rattle.prof_layout.specs.Tables as layout;
+ghost use Rattle.prof_gather.specs.Taking.{Reads};
+ghost use Rattle.prof_read.specs.Gathered.{AreWeights};
+ghost use Rattle.prof_read.specs.SampleNames.{sample_name};
+ghost use Rattle.prof_gather.specs.Feeding.{IsWithin, IsBegun, Passes, Finishes, Refuses, in_member};
 
-use crate::ReadRefusal;
-use crate::cells::{Reading, cell};
+use crate::cells::cell;
 use crate::columns::{MOST_SAMPLES, add_cell, column, empty_column, state_of, table_length};
-use crate::feed::Feed;
-use crate::hashed::Start;
-use crate::objects::{FromItems, FromMembers, array, skip_behind};
+use prof_gather::{Feed, FromItems, FromMembers, GatherRefusal, Start, array, skip_behind};
 use prof_io::Source;
 use prof_json::Event;
+use prof_layout::Reading;
 use prof_tables::{RawColumn, State, TableLength, Unit};
 use std::alloc::Global;
 
@@ -21,12 +25,16 @@ pub struct Weights {
 }
 
 impl FromItems for Weights {
+    ghost use Rattle.prof_read.specs.Columns.{AreWeightsOf};
+
+    ghost is = { λ first vs w. AreWeightsOf first vs w };
+
     fn take_item<R: Source, W: Start>(
         &mut self,
         alloc: Global,
         feed: &mut Feed<R, W>,
         first: Event,
-    ) -> Result<(), ReadRefusal> {
+    ) -> Result<(), GatherRefusal> {
         let count = cell(feed, Reading::Count, first);
         let time = cell(feed, Reading::Time, first);
         skip_behind(alloc, feed, first)?;
@@ -40,9 +48,10 @@ impl FromItems for Weights {
 fn weight_columns<R: Source, W: Start>(
     alloc: Global,
     feed: &mut Feed<R, W>,
-) -> Result<Weights, ReadRefusal>
+) -> Result<Weights, GatherRefusal>
     requires { IsWithin in_member feed.old }
     ensures ok { OnOk result (Passes feed.old feed.new) }
+    ensures weights { IfOk result (λ w. (v : Value) × Reads feed.old feed.new v × AreWeights (Some v) w) }
     ensures err { IfErr result (λ r. Refuses r feed.new) }
 {
     let mut weights = Weights {
@@ -56,7 +65,9 @@ fn weight_columns<R: Source, W: Start>(
 }
 
 /// The unit of a weight type, if it is known.
-fn unit_named(text: &str) -> Option<Unit> {
+fn unit_named(text: &str) -> Option<Unit>
+    ensures { result ≡ layout.unit_named text.now }
+{
     match text {
         "samples" => Some(Unit::Samples),
         "tracing-ms" => Some(Unit::Ns),
@@ -69,9 +80,10 @@ fn unit_named(text: &str) -> Option<Unit> {
 fn weight_unit<R: Source, W: Start>(
     alloc: Global,
     feed: &mut Feed<R, W>,
-) -> Result<Option<Unit>, ReadRefusal>
+) -> Result<Option<Unit>, GatherRefusal>
     requires { IsWithin in_member feed.old }
     ensures ok { OnOk result (Passes feed.old feed.new) }
+    ensures unit { IfOk result (λ u. (v : Value) × Reads feed.old feed.new v × (u ≡ layout.weight_unit (Some v))) }
     ensures err { IfErr result (λ r. Refuses r feed.new) }
 {
     let first = feed.next(alloc)?;
@@ -105,7 +117,10 @@ enum SampleMember {
     Length,
 }
 
-fn sample_member(name: &str) -> Option<SampleMember> {
+fn sample_member(name: &str) -> Option<SampleMember>
+    ensures named { IfSome result (λ m. name.now ≡ sample_name m) }
+    ensures other { IfNone result ((m : SampleMember) → same_text name.now (sample_name m) ≡ false) }
+{
     match name {
         "stack" => Some(SampleMember::Stack),
         "time" => Some(SampleMember::Time),
@@ -118,6 +133,10 @@ fn sample_member(name: &str) -> Option<SampleMember> {
 }
 
 impl FromMembers for SampleTable {
+    ghost use Rattle.prof_read.specs.Gathered.{AreSampleColumns};
+
+    ghost is = { λ ms t. AreSampleColumns ms t };
+
     fn none(alloc: Global) -> Self {
         SampleTable {
             stack: empty_column(alloc, State::Absent),
@@ -136,7 +155,7 @@ impl FromMembers for SampleTable {
         &mut self,
         alloc: Global,
         feed: &mut Feed<R, W>,
-    ) -> Result<(), ReadRefusal> {
+    ) -> Result<(), GatherRefusal> {
         match sample_member(feed.name()) {
             Some(SampleMember::Stack) => {
                 self.stack = column(alloc, feed, Reading::MaybeIndex, true, MOST_SAMPLES)?

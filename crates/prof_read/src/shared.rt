@@ -1,12 +1,15 @@
 //! The tables that threads may share: strings, resources, functions, frames and stacks.
-use crate::ReadRefusal;
-use crate::cells::Reading;
+ghost use Rattle.std.specs.Prelude.{◌≡◌, IfSome, IfNone, false};
+ghost use Rattle.prof_grammar.specs.Value.{same_text};
+ghost use Rattle.prof_read.specs.Named.{resource_member_name, func_member_name, frame_member_name, stack_member_name};
+ghost use Rattle.prof_read.specs.Names.{member_name};
+
 use crate::columns::{MOST_FUNCS, MOST_ROWS, column, empty_column, table_length};
-use crate::feed::Feed;
-use crate::hashed::Start;
-use crate::objects::{Found, FromMembers, object};
-use crate::texts::{TextList, text_list};
+use crate::lists::TextList;
+use crate::texts::text_list;
+use prof_gather::{Feed, Found, FromMembers, GatherRefusal, Start, object};
 use prof_io::Source;
+use prof_layout::Reading;
 use prof_tables::{RawColumn, State, TableLength};
 use std::alloc::Global;
 
@@ -22,7 +25,10 @@ enum ResourceMember {
     Length,
 }
 
-fn resource_member(name: &str) -> Option<ResourceMember> {
+fn resource_member(name: &str) -> Option<ResourceMember>
+    ensures some { IfSome result (λ m. name.now ≡ resource_member_name m) }
+    ensures none { IfNone result ((m : ResourceMember) → same_text name.now (resource_member_name m) ≡ false) }
+{
     match name {
         "name" => Some(ResourceMember::Name),
         "length" => Some(ResourceMember::Length),
@@ -31,6 +37,10 @@ fn resource_member(name: &str) -> Option<ResourceMember> {
 }
 
 impl FromMembers for ResourceTable {
+    ghost use Rattle.prof_read.specs.Gathered.{AreResourceColumns};
+
+    ghost is = { λ ms t. AreResourceColumns ms t };
+
     fn none(alloc: Global) -> Self {
         ResourceTable {
             name: empty_column(alloc, State::Absent),
@@ -42,7 +52,7 @@ impl FromMembers for ResourceTable {
         &mut self,
         alloc: Global,
         feed: &mut Feed<R, W>,
-    ) -> Result<(), ReadRefusal> {
+    ) -> Result<(), GatherRefusal> {
         match resource_member(feed.name()) {
             Some(ResourceMember::Name) => {
                 self.name = column(alloc, feed, Reading::Index, true, MOST_FUNCS)?
@@ -74,7 +84,10 @@ enum FuncMember {
     Length,
 }
 
-fn func_member(name: &str) -> Option<FuncMember> {
+fn func_member(name: &str) -> Option<FuncMember>
+    ensures some { IfSome result (λ m. name.now ≡ func_member_name m) }
+    ensures none { IfNone result ((m : FuncMember) → same_text name.now (func_member_name m) ≡ false) }
+{
     match name {
         "name" => Some(FuncMember::Name),
         "isJS" => Some(FuncMember::IsJs),
@@ -87,6 +100,10 @@ fn func_member(name: &str) -> Option<FuncMember> {
 }
 
 impl FromMembers for FuncTable {
+    ghost use Rattle.prof_read.specs.Gathered.{AreFuncColumns};
+
+    ghost is = { λ ms t. AreFuncColumns ms t };
+
     fn none(alloc: Global) -> Self {
         FuncTable {
             name: empty_column(alloc, State::Absent),
@@ -102,7 +119,7 @@ impl FromMembers for FuncTable {
         &mut self,
         alloc: Global,
         feed: &mut Feed<R, W>,
-    ) -> Result<(), ReadRefusal> {
+    ) -> Result<(), GatherRefusal> {
         match func_member(feed.name()) {
             Some(FuncMember::Name) => {
                 self.name = column(alloc, feed, Reading::Index, true, MOST_FUNCS)?
@@ -140,7 +157,10 @@ enum FrameMember {
     Length,
 }
 
-fn frame_member(name: &str) -> Option<FrameMember> {
+fn frame_member(name: &str) -> Option<FrameMember>
+    ensures some { IfSome result (λ m. name.now ≡ frame_member_name m) }
+    ensures none { IfNone result ((m : FrameMember) → same_text name.now (frame_member_name m) ≡ false) }
+{
     match name {
         "func" => Some(FrameMember::Func),
         "category" => Some(FrameMember::Category),
@@ -150,6 +170,10 @@ fn frame_member(name: &str) -> Option<FrameMember> {
 }
 
 impl FromMembers for FrameTable {
+    ghost use Rattle.prof_read.specs.Gathered.{AreFrameColumns};
+
+    ghost is = { λ ms t. AreFrameColumns ms t };
+
     fn none(alloc: Global) -> Self {
         FrameTable {
             func: empty_column(alloc, State::Absent),
@@ -162,7 +186,7 @@ impl FromMembers for FrameTable {
         &mut self,
         alloc: Global,
         feed: &mut Feed<R, W>,
-    ) -> Result<(), ReadRefusal> {
+    ) -> Result<(), GatherRefusal> {
         match frame_member(feed.name()) {
             Some(FrameMember::Func) => {
                 self.func = column(alloc, feed, Reading::Index, true, MOST_ROWS)?
@@ -191,7 +215,10 @@ enum StackMember {
     Length,
 }
 
-fn stack_member(name: &str) -> Option<StackMember> {
+fn stack_member(name: &str) -> Option<StackMember>
+    ensures some { IfSome result (λ m. name.now ≡ stack_member_name m) }
+    ensures none { IfNone result ((m : StackMember) → same_text name.now (stack_member_name m) ≡ false) }
+{
     match name {
         "frame" => Some(StackMember::Frame),
         "prefix" => Some(StackMember::Prefix),
@@ -201,6 +228,10 @@ fn stack_member(name: &str) -> Option<StackMember> {
 }
 
 impl FromMembers for StackTable {
+    ghost use Rattle.prof_read.specs.Gathered.{AreStackColumns};
+
+    ghost is = { λ ms t. AreStackColumns ms t };
+
     fn none(alloc: Global) -> Self {
         StackTable {
             frame: empty_column(alloc, State::Absent),
@@ -213,7 +244,7 @@ impl FromMembers for StackTable {
         &mut self,
         alloc: Global,
         feed: &mut Feed<R, W>,
-    ) -> Result<(), ReadRefusal> {
+    ) -> Result<(), GatherRefusal> {
         match stack_member(feed.name()) {
             Some(StackMember::Frame) => {
                 self.frame = column(alloc, feed, Reading::Index, true, MOST_ROWS)?
@@ -247,7 +278,10 @@ pub enum SharedMember {
     Stacks,
 }
 
-pub fn shared_member(name: &str) -> Option<SharedMember> {
+pub fn shared_member(name: &str) -> Option<SharedMember>
+    ensures some { IfSome result (λ m. name.now ≡ member_name m) }
+    ensures none { IfNone result ((m : SharedMember) → same_text name.now (member_name m) ≡ false) }
+{
     match name {
         "stringArray" => Some(SharedMember::Strings),
         "resourceTable" => Some(SharedMember::Resources),
@@ -259,8 +293,13 @@ pub fn shared_member(name: &str) -> Option<SharedMember> {
 }
 
 impl SharedTables {
-    ghost use Rattle.std.specs.Prelude.{OnOk, IfErr};
-    ghost use Rattle.prof_read.specs.Feeding.{IsWithin, Passes, Refuses, in_member};
+    ghost use Rattle.std.specs.Prelude.{◌≡◌, OnOk, IfErr, Some, codes, is_some};
+    ghost use Rattle.prof_grammar.specs.Value.{Value, Members, snoc, last_named};
+    ghost use Rattle.prof_gather.specs.Taking.{Reads};
+    ghost use Rattle.prof_layout.specs.Lists.{unless_null};
+    ghost use Rattle.prof_read.specs.Gathered.{AreShared};
+    ghost use Rattle.prof_read.specs.Names.{member_name};
+    ghost use Rattle.prof_gather.specs.Feeding.{IsWithin, Passes, Refuses, in_member};
 
     /// Reads the value of this member.
     pub fn take<R: Source, W: Start>(
@@ -268,9 +307,10 @@ impl SharedTables {
         alloc: Global,
         feed: &mut Feed<R, W>,
         member: SharedMember,
-    ) -> Result<(), ReadRefusal>
+    ) -> Result<(), GatherRefusal>
         requires { IsWithin in_member feed.old }
         ensures ok { OnOk result (Passes feed.old feed.new) }
+        ensures member { OnOk result ((v : Value) × Reads feed.old feed.new v × ((ms : Members) → AreShared ms self.old → AreShared (snoc ms (member_name member) v) self.new)) }
         ensures err { IfErr result (λ r. Refuses r feed.new) }
     {
         match member {
@@ -284,7 +324,9 @@ impl SharedTables {
     }
 
     /// Whether the stack table is there, whatever it is.
-    pub fn has_stacks(&self) -> bool {
+    pub fn has_stacks(&self) -> bool
+        ensures { (ms : Members) → AreShared ms self.now → result ≡ is_some (unless_null (last_named (codes "stackTable") ms)) }
+    {
         match self.stacks {
             Found::Absent | Found::Null => false,
             Found::Other | Found::Object(_) => true,
@@ -293,6 +335,10 @@ impl SharedTables {
 }
 
 impl FromMembers for SharedTables {
+    ghost use Rattle.prof_read.specs.Gathered.{AreShared};
+
+    ghost is = { λ ms t. AreShared ms t };
+
     fn none(alloc: Global) -> Self {
         SharedTables {
             strings: TextList::absent(alloc),
@@ -307,7 +353,7 @@ impl FromMembers for SharedTables {
         &mut self,
         alloc: Global,
         feed: &mut Feed<R, W>,
-    ) -> Result<(), ReadRefusal> {
+    ) -> Result<(), GatherRefusal> {
         match shared_member(feed.name()) {
             Some(member) => self.take(alloc, feed, member)?,
             None => feed.skip_member(alloc)?,

@@ -1,5 +1,6 @@
 //! What is read of small texts.
 use crate::*;
+use prof_gather::GatherRefusal;
 use prof_io::SteadySource;
 use prof_json::JsonFault;
 use prof_tables::{Broken, Column, Profile, Rule, SampleRow, Table, Unit};
@@ -15,7 +16,7 @@ const SAMPLES: &str =
 
 const META: &str = "{\"meta\":{\"preprocessedProfileVersion\":47},\"libs\":[],";
 
-type Answer = Result<(Profile, Digest, Form), ReadRefusal>;
+type Answer = Result<(Profile, Digest, Form), GatherRefusal>;
 
 fn joined(alloc: Global, parts: &[&str]) -> Result<Vec<u8>, Fail> {
     let mut bytes = Vec::new(alloc);
@@ -34,7 +35,7 @@ fn read(alloc: Global, parts: &[&str]) -> Result<Answer, Fail> {
 /// The rule that a text breaks, with its place.
 fn broken(alloc: Global, parts: &[&str]) -> Result<Option<Broken>, Fail> {
     Ok(match read(alloc, parts)? {
-        Err(ReadRefusal::Broken(broken)) => Some(broken),
+        Err(GatherRefusal::Broken(broken)) => Some(broken),
         _ => None,
     })
 }
@@ -338,7 +339,7 @@ fn faults_of_json_go_first(rt: HostRuntime) -> Result<(), Fail> {
         let refused = read(alloc, &[text])?.err();
         assert_eq!(rt;
             refused,
-            Some(ReadRefusal::Json(JsonFault::NotJson { at })),
+            Some(GatherRefusal::Json(JsonFault::NotJson { at })),
             "{text}"
         );
     }
@@ -350,7 +351,7 @@ fn faults_of_json_go_first(rt: HostRuntime) -> Result<(), Fail> {
     let refused = read_profile(alloc, &mut src).err();
     assert_eq!(rt;
         refused,
-        Some(ReadRefusal::Json(JsonFault::TooDeep { at: 256 }))
+        Some(GatherRefusal::Json(JsonFault::TooDeep { at: 256 }))
     );
     Ok(())
 }

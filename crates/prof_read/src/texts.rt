@@ -1,12 +1,15 @@
 //! Lists of strings, and single texts.
-ghost use Rattle.std.specs.Prelude.{◌≡◌, ◌≤◌, OnOk, IfErr, vec_len};
-ghost use Rattle.prof_read.specs.Feeding.{IsWithin, IsBegun, Passes, Finishes, Refuses, in_member};
+ghost use Rattle.std.specs.Prelude.{◌≡◌, ◌≤◌, OnOk, IfOk, IfErr, Option, Some, None, string_bytes, vec_len};
+ghost use Rattle.std.specs.Option.{option_map};
+ghost use Rattle.prof_grammar.specs.Value.{Value};
+ghost use Rattle.prof_layout.specs.Tables.{strings_fault};
+ghost use Rattle.prof_gather.specs.Taking.{Reads};
+ghost use Rattle.prof_read.specs.Gathered.{string_of, IsTextList};
+ghost use Rattle.prof_gather.specs.Feeding.{IsWithin, IsBegun, Passes, Finishes, Refuses, in_member};
 
-use crate::ReadRefusal;
 use crate::columns::{MOST_ROWS, state_of};
-use crate::feed::Feed;
-use crate::hashed::Start;
-use crate::objects::{FromItems, array, skip_behind};
+use crate::lists::TextList;
+use prof_gather::{Feed, FromItems, GatherRefusal, Start, array, skip_behind};
 use prof_io::Source;
 use prof_json::Event;
 use prof_tables::{ListFault, Rule, State, Strings};
@@ -17,9 +20,10 @@ use std::rc::Rc;
 pub fn text<R: Source, W: Start>(
     alloc: Global,
     feed: &mut Feed<R, W>,
-) -> Result<Option<String>, ReadRefusal>
+) -> Result<Option<String>, GatherRefusal>
     requires { IsWithin in_member feed.old }
     ensures ok { OnOk result (Passes feed.old feed.new) }
+    ensures text { IfOk result (λ t. (v : Value) × Reads feed.old feed.new v × (option_map string_bytes t ≡ string_of (Some v))) }
     ensures err { IfErr result (λ r. Refuses r feed.new) }
 {
     let first = feed.next(alloc)?;
@@ -35,18 +39,10 @@ pub fn text<R: Source, W: Start>(
     }
 }
 
-/// A list of strings that is gathered: at most one more than a list may have. `bad` is the first row that is no string;
-/// there the empty text stands.
-#[derive(Drop)]
-pub struct TextList {
-    pub state: State,
-    pub texts: Vec<String>,
-    pub bad: Option<u32>,
-    ghost few: { vec_len texts ≤ 4194305 },
-}
-
 impl TextList {
-    pub fn absent(alloc: Global) -> Self {
+    pub fn absent(alloc: Global) -> Self
+        ensures { IsTextList None result }
+    {
         TextList {
             state: State::Absent,
             texts: Vec::new(alloc),
@@ -55,31 +51,39 @@ impl TextList {
     }
 
     /// The first rule that the list breaks.
-    pub fn fault(&self) -> Option<ListFault> {
+    pub fn fault(&self) -> Option<ListFault>
+        ensures { (member : Option Value) → IsTextList member self.now → result ≡ strings_fault member }
+    {
         match self.state {
             State::Absent => Some(whole(Rule::Missing)),
             State::NotArray => Some(whole(Rule::WrongKind)),
             State::Array if self.texts.len() > MOST_ROWS as usize => Some(whole(Rule::RowLimit)),
-            State::Array => self.bad.map(|row| ListFault {
+            State::Array => Some(ListFault {
                 rule: Rule::WrongKind,
-                row: Some(row),
+                row: Some(self.bad?),
             }),
         }
     }
 }
 
 /// A fault of a list as a whole.
-pub fn whole(rule: Rule) -> ListFault {
+pub fn whole(rule: Rule) -> ListFault
+    ensures { result ≡ record { rule = rule; row = None } }
+{
     ListFault { rule, row: None }
 }
 
 impl FromItems for TextList {
+    ghost use Rattle.prof_read.specs.Columns.{IsTextListOf};
+
+    ghost is = { λ first vs l. IsTextListOf first vs l };
+
     fn take_item<R: Source, W: Start>(
         &mut self,
         alloc: Global,
         feed: &mut Feed<R, W>,
         first: Event,
-    ) -> Result<(), ReadRefusal> {
+    ) -> Result<(), GatherRefusal> {
         if self.texts.len() > MOST_ROWS as usize {
             return skip_behind(alloc, feed, first);
         }
@@ -91,9 +95,8 @@ impl FromItems for TextList {
             }
             _ => {
                 skip_behind(alloc, feed, first)?;
-                if self.bad.is_none() {
-                    self.bad = Some(self.texts.len() as u32);
-                }
+                let row = self.texts.len() as u32;
+                self.bad = self.bad.or(Some(row));
                 self.texts.push(String::new(alloc))?;
                 Ok(())
             }
@@ -105,9 +108,10 @@ impl FromItems for TextList {
 pub fn text_list<R: Source, W: Start>(
     alloc: Global,
     feed: &mut Feed<R, W>,
-) -> Result<TextList, ReadRefusal>
+) -> Result<TextList, GatherRefusal>
     requires { IsWithin in_member feed.old }
     ensures ok { OnOk result (Passes feed.old feed.new) }
+    ensures list { IfOk result (λ l. (v : Value) × Reads feed.old feed.new v × IsTextList (Some v) l) }
     ensures err { IfErr result (λ r. Refuses r feed.new) }
 {
     let mut list = TextList::absent(alloc);

@@ -1,16 +1,22 @@
 //! The list of threads.
-ghost use Rattle.std.specs.Prelude.{◌≡◌, ◌≤◌, OnOk, IfErr, IfNone, vec_len};
-ghost use Rattle.prof_read.specs.Feeding.{IsWithin, IsBegun, Passes, Finishes, Refuses, in_member};
+ghost use Rattle.std.specs.Prelude.{◌≡◌, false, ◌≤◌, OnOk, IfOk, IfErr, IfSome, IfNone, Option, Some, None, vec_len};
+ghost use Rattle.prof_grammar.specs.Value.{Value, same_text};
+ghost use Rattle.prof_layout.specs.Lists.{is_object, needed_list_fault};
+ghost use Rattle.prof_layout.specs.Profile.{most_threads};
+ghost use Rattle.prof_gather.specs.Taking.{Reads};
+ghost use Rattle.prof_read.specs.Gathered.{IsThreadList};
+ghost use Rattle.prof_read.specs.Named.{thread_member_name};
+ghost use Rattle.prof_gather.specs.Feeding.{IsWithin, IsBegun, Passes, Finishes, Refuses, in_member};
 
-use crate::ReadRefusal;
 use crate::columns::state_of;
-use crate::feed::Feed;
-use crate::hashed::Start;
+use crate::lists::ThreadList;
 use crate::markers::MarkerTable;
-use crate::objects::{Found, FromItems, FromMembers, array, members, object, skip_behind};
 use crate::samples::SampleTable;
 use crate::shared::{SharedMember, SharedTables, shared_member};
 use crate::texts::{text, whole};
+use prof_gather::{
+    Feed, Found, FromItems, FromMembers, GatherRefusal, Start, array, members, object, skip_behind,
+};
 use prof_io::Source;
 use prof_json::Event;
 use prof_tables::{ListFault, Rule, State};
@@ -35,7 +41,10 @@ enum ThreadMember {
     Shared(SharedMember),
 }
 
-fn thread_member(name: &str) -> Option<ThreadMember> {
+fn thread_member(name: &str) -> Option<ThreadMember>
+    ensures some { IfSome result (λ m. name.now ≡ thread_member_name m) }
+    ensures none { IfNone result ((m : ThreadMember) → same_text name.now (thread_member_name m) ≡ false) }
+{
     match name {
         "name" => Some(ThreadMember::Name),
         "samples" => Some(ThreadMember::Samples),
@@ -48,6 +57,10 @@ fn thread_member(name: &str) -> Option<ThreadMember> {
 }
 
 impl FromMembers for ThreadParts {
+    ghost use Rattle.prof_read.specs.Gathered.{AreThread};
+
+    ghost is = { λ ms t. AreThread ms t };
+
     fn none(alloc: Global) -> Self {
         ThreadParts {
             name: None,
@@ -61,7 +74,7 @@ impl FromMembers for ThreadParts {
         &mut self,
         alloc: Global,
         feed: &mut Feed<R, W>,
-    ) -> Result<(), ReadRefusal> {
+    ) -> Result<(), GatherRefusal> {
         match thread_member(feed.name()) {
             Some(ThreadMember::Name) => self.name = text(alloc, feed)?,
             Some(ThreadMember::Samples) => self.samples = object(alloc, feed)?,
@@ -73,18 +86,10 @@ impl FromMembers for ThreadParts {
     }
 }
 
-/// The list of threads that is gathered: its first rows, at most one more than it may have. `bad` is the first row that
-/// is no object; it stands in the list as a thread without members.
-#[derive(Drop)]
-pub struct ThreadList {
-    pub state: State,
-    pub threads: Vec<ThreadParts>,
-    pub bad: Option<u32>,
-    ghost few: { vec_len threads ≤ 1025 },
-}
-
 impl ThreadList {
-    pub fn absent(alloc: Global) -> Self {
+    pub fn absent(alloc: Global) -> Self
+        ensures { IsThreadList None result }
+    {
         ThreadList {
             state: State::Absent,
             threads: Vec::new(alloc),
@@ -94,7 +99,8 @@ impl ThreadList {
 
     /// The first rule that the list breaks.
     pub fn fault(&self) -> Option<ListFault>
-        ensures { IfNone result (vec_len self.now.threads ≤ 1024) }
+        ensures few { IfNone result (vec_len self.now.threads ≤ 1024) }
+        ensures is { (member : Option Value) → IsThreadList member self.now → result ≡ needed_list_fault is_object most_threads member }
     {
         match self.state {
             State::Absent => Some(whole(Rule::Missing)),
@@ -111,12 +117,16 @@ impl ThreadList {
 }
 
 impl FromItems for ThreadList {
+    ghost use Rattle.prof_read.specs.Columns.{IsThreadListOf};
+
+    ghost is = { λ first vs l. IsThreadListOf first vs l };
+
     fn take_item<R: Source, W: Start>(
         &mut self,
         alloc: Global,
         feed: &mut Feed<R, W>,
         first: Event,
-    ) -> Result<(), ReadRefusal> {
+    ) -> Result<(), GatherRefusal> {
         if self.threads.len() > MOST_THREADS as usize {
             return skip_behind(alloc, feed, first);
         }
@@ -128,9 +138,7 @@ impl FromItems for ThreadList {
             }
             _ => {
                 skip_behind(alloc, feed, first)?;
-                if self.bad.is_none() {
-                    self.bad = Some(self.threads.len() as u32);
-                }
+                self.bad = self.bad.or(Some(self.threads.len() as u32));
                 self.threads.push(ThreadParts::none(alloc))?;
                 Ok(())
             }
@@ -142,9 +150,10 @@ impl FromItems for ThreadList {
 pub fn thread_list<R: Source, W: Start>(
     alloc: Global,
     feed: &mut Feed<R, W>,
-) -> Result<ThreadList, ReadRefusal>
+) -> Result<ThreadList, GatherRefusal>
     requires { IsWithin in_member feed.old }
     ensures ok { OnOk result (Passes feed.old feed.new) }
+    ensures list { IfOk result (λ l. (v : Value) × Reads feed.old feed.new v × IsThreadList (Some v) l) }
     ensures err { IfErr result (λ r. Refuses r feed.new) }
 {
     let mut list = ThreadList::absent(alloc);

@@ -12,7 +12,7 @@ use Rattle.prof_tables.specs.Cells.{SharedCells, cell}
 use Rattle.prof_tables.specs.Frames.{stack_after, category_before, IsFrameOf}
 use Rattle.prof_tables.specs.Moments.{index_of}
 use Rattle.prof_tables.specs.Rules.{cell_rule}
-use Rattle.prof_tables.specs.Rows.{rows_of, stacks_below, stacks_of, frames_of, frame_at, index_or_none, shared_of}
+use Rattle.prof_tables.specs.Rows.{rows_of, stacks_below, stacks_of, frames_of, frame_at, index_or_none, stack_frames_of, shared_of}
 use Rattle.prof_tables.specs.Fits.{FitStacks}
 use Rattle.prof_tables.specs.Ties.{AreFrames}
 use Rattle.prof_tables.proofs.RowLists.{length-rows_of, slice_get-rows_of, slice_get-push_other, slice_get-push_last, length-stacks_below, length-stacks_of}
@@ -77,17 +77,19 @@ frame-of categories default raw i fit lt =
     )
 
 -- the frames' numbers are those of the stack rows
-pub frames_tied : (categories default : ℕ) (raw : SharedCells) (numbers : List ℕ) → FitStacks raw → numbers ≡ rows_of (λ i. index_of (cell raw.stack_frame i)) (length raw.stack_frame.cells) → AreFrames (shared_of categories default raw) numbers
-frames_tied categories default raw numbers fit e =
+pub frames_tied : (categories default : ℕ) (raw : SharedCells) → FitStacks raw → AreFrames (shared_of categories default raw)
+unfolding stack_frames_of
+frames_tied categories default raw fit =
     let n = length raw.stack_frame.cells in
     let number : ℕ → ℕ = λ i. index_of (cell raw.stack_frame i) in
-    let many : length numbers ≡ n = ap length e ∙ length-rows_of number n in
+    let numbers : List ℕ = rows_of number n in
+    let many : length numbers ≡ n = length-rows_of number n in
     record {
       many = many ∙ sym (length-stacks_of default raw);
       frame = λ i j h.
           (let inside = slice_get_within numbers i j h in
           let lt : i < n = omega arith in
-          let at : slice_get numbers i ≡ Some (number i) = ap (λ (xs : List ℕ). slice_get xs i) e ∙ slice_get-rows_of number n i lt in
+          let at : slice_get numbers i ≡ Some (number i) = slice_get-rows_of number n i lt in
           let same : number i ≡ j = cc in
           let P : ℕ → Type 0 = λ k. IsFrameOf (shared_of categories default raw) i k in
           subst P same (frame-of categories default raw i fit lt));

@@ -56,12 +56,19 @@ frame_at raw j = record { func = index_of (cell raw.frame_func j); category = in
 unfoldable pub frames_of : SharedCells → List FrameRow
 frames_of raw = rows_of (frame_at raw) (length raw.frame_func.cells)
 
+-- the frames of the stack rows
+abbrev pub stack_frame_at : SharedCells → ℕ → ℕ
+stack_frame_at raw i = index_of (cell raw.stack_frame i)
+
+unfoldable pub stack_frames_of : SharedCells → List ℕ
+stack_frames_of raw = rows_of (stack_frame_at raw) (length raw.stack_frame.cells)
+
 -- the first so many stack rows, each by those before it
 unfoldable pub stacks_below : ℕ → SharedCells → ℕ → List StackRow
 stacks_below default raw zero = []
 stacks_below default raw (suc n) =
     let rows = stacks_below default raw n in
-    rows ++ stack_after default rows (index_or_none (cell raw.stack_prefix n)) (frame_at raw (index_of (cell raw.stack_frame n))) ∷ []
+    rows ++ stack_after default rows (index_or_none (cell raw.stack_prefix n)) (frame_at raw (stack_frame_at raw n)) ∷ []
 
 unfoldable pub stacks_of : ℕ → SharedCells → List StackRow
 stacks_of default raw = stacks_below default raw (length raw.stack_frame.cells)
@@ -74,6 +81,7 @@ shared_of categories default raw = record {
   funcs = funcs_of raw;
   frames = frames_of raw;
   stacks = stacks_of default raw;
+  stack_frames = stack_frames_of raw;
   categories = categories;
   default = default;
 }

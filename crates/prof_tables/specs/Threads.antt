@@ -15,13 +15,14 @@ pub record Func : Type 0 where
   pub resource : Option ℕ
   pub file : Option ℕ
 
--- the tables that threads may share; a resource is the place of its name
+-- the tables that threads may share; a resource is the place of its name, and each stack row has the number of its frame
 pub record SharedTables : Type 0 where
   pub strings : List (List ℕ)
   pub resources : List ℕ
   pub funcs : List Func
   pub frames : List FrameRow
   pub stacks : List StackRow
+  pub stack_frames : List ℕ
   pub categories : ℕ
   pub default : ℕ
 

@@ -32,10 +32,10 @@ pub record AreTied (t : SharedTables) : Type 0 where
   pub frames : All (IsFrame (length t.funcs) t.categories) t.frames
   pub stacks : All (IsStackRow (length t.funcs) t.categories) t.stacks
 
--- the frames of the stack rows
-pub record AreFrames (t : SharedTables) (numbers : List ℕ) : Type 0 where
-  pub many : length numbers ≡ length t.stacks
-  pub frame : (i j : ℕ) → slice_get numbers i ≡ Some j → IsFrameOf t i j
+-- each stack row has a frame, which gives it its function and its category
+pub record AreFrames (t : SharedTables) : Type 0 where
+  pub many : length t.stack_frames ≡ length t.stacks
+  pub frame : (i j : ℕ) → slice_get t.stack_frames i ≡ Some j → IsFrameOf t i j
 
 -- times and weights have at most this size
 abbrev pub InRange : ℤ → Type 0

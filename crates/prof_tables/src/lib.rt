@@ -32,3 +32,6 @@ pub use shared::Shared;
 pub use stacks::{Stacks, StacksBuilder};
 pub use strings::Strings;
 pub use thread::Thread;
+
+#[cfg(test)]
+mod tests;

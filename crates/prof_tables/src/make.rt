@@ -1,11 +1,9 @@
 //! The rows of the tables that threads may share, made of checked columns.
 ghost use Rattle.std.specs.Prelude.{◌≡◌, ◌<◌, ◌≤◌, length, IfOk, IfSome, All, Some, slice_get};
 ghost use Rattle.prof_tables.specs.Checks.{resource_count};
-ghost use Rattle.prof_tables.specs.Cells.{cell};
 ghost use Rattle.prof_tables.specs.Frames.{category_before, stack_after};
-ghost use Rattle.prof_tables.specs.Moments.{index_of};
 ghost use Rattle.prof_tables.specs.Paths.{PrefixesBelow};
-ghost use Rattle.prof_tables.specs.Rows.{rows_of, func_at, resources_of, funcs_of, frames_of, stacks_of};
+ghost use Rattle.prof_tables.specs.Rows.{func_at, resources_of, funcs_of, frames_of, stacks_of, stack_frames_of};
 ghost use Rattle.prof_tables.specs.Fits.{FitResources, FitFuncs, FitFrames, FitStacks};
 ghost use Rattle.prof_tables.specs.Ties.{IsFunc, IsFrame, IsStackRow};
 
@@ -93,10 +91,11 @@ pub(crate) fn frames_of(
 }
 
 /// The frames of the stack rows.
+#[tactic(auto, unfolding(crate::specs::Rows::stack_frames_of))]
 pub(crate) fn stack_frames_of(alloc: Global, raw: &RawShared) -> Result<Vec<u32>, AllocError>
     requires frames { length raw.now.frame_func.cells ≤ 4194304 }
     requires stacks { FitStacks raw.now }
-    ensures rows { IfOk result (λ v. v.items ≡ rows_of (λ i. index_of (cell raw.now.stack_frame i)) (length raw.now.stack_frame.cells)) }
+    ensures rows { IfOk result (λ v. v.items ≡ stack_frames_of raw.now) }
 {
     let frames = raw.frame_func.values.len() as u32;
     let rows = raw.stack_frame.values.len();

@@ -47,6 +47,7 @@ impl Model for Shared {
       funcs = s.funcs.items;
       frames = s.frames.items;
       stacks = s.stacks;
+      stack_frames = s.stack_frames.items;
       categories = s.categories;
       default = s.default;
     } };
@@ -57,6 +58,7 @@ impl Model for Shared {
       funcs = s.funcs.items;
       frames = s.frames.items;
       stacks = s.stacks;
+      stack_frames = s.stack_frames.items;
       categories = s.categories;
       default = s.default;
     })
@@ -66,9 +68,10 @@ impl Model for Shared {
           funcs = s.funcs.items;
           frames = s.frames.items;
           stacks = s.stacks;
+          stack_frames = s.stack_frames.items;
           categories = s.categories;
           default = s.default;
-        }) s.stack_frames.items };
+        }) };
 }
 
 impl Shared {
@@ -276,7 +279,8 @@ impl Shared {
 
     pub(crate) fn stack_frame<L: Ledger>(&self, i: u32, reads: &mut Steps<L>) -> u32
         requires { i < length self.now.stacks }
-        ensures frame { IsFrameOf self.now i result }
+        ensures row { slice_get self.now.stack_frames i ≡ Some result }
+        ensures step { IsFrameOf self.now i result }
         ensures one { reads.new ≡ reads.old + 1 }
     {
         reads.tick();

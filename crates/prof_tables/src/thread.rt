@@ -313,7 +313,8 @@ impl Thread {
     /// The frame of a stack row, which counts one reading. It gives the row its function and its category.
     pub fn stack_frame<L: Ledger>(&self, i: u32, reads: &mut Steps<L>) -> u32
         requires { i < length self.now.shared.stacks }
-        ensures frame { IsFrameOf self.now.shared i result }
+        ensures row { slice_get self.now.shared.stack_frames i ≡ Some result }
+        ensures step { IsFrameOf self.now.shared i result }
         ensures one { reads.new ≡ reads.old + 1 }
     {
         self.shared.stack_frame(i, reads)

@@ -1,10 +1,7 @@
-use Rattle.std.proofs.Common.{rules, sym, subst}
-use Rattle.prof_desk.specs.Playing.{IsBreak}
+use Rattle.prof_desk.proofs.OfText.{of_order}
 use Rattle.prof_desk.proofs.desk.run.Goals as goal
 
-pub returns-in-Ok-Tree-clause-told : goal.returns-in-Ok-Tree-clause-told
-returns-in-Ok-Tree-clause-told g c = (
-  c.as_str-in-Ok-Tree-2.result.now,
-  (λ e. subst IsBreak (sym c.as_str-in-Ok-Tree-2.ensures.value) (c.tree_of-outcome.ensures.broken e)),
-  search rules,
-)
+pub returns-in-Ok-clause-told : goal.returns-in-Ok-clause-told
+returns-in-Ok-clause-told g c =
+    let said = c.carry_out.ensures.told in
+    (said.0, of_order _ _ _ c.in-Ok.ensures.ok (said.1, said.2))

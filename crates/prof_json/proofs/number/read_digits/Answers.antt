@@ -1,15 +1,20 @@
-use Rattle.std.proofs.Common.{◌≡◌, ◌<◌, true, arith}
+use Rattle.std.proofs.Common.{◌≡◌, ℕ, List, ◌<◌, ◌∷◌, true, refl, arith}
 use Rattle.std.proofs.lemmas.Grind.{common_steps}
 use Rattle.prof_json.specs.Ahead.{IsNext}
 use Rattle.prof_json.specs.Bytes.{is_digit}
 use Rattle.prof_json.proofs.Journeys.{moves_trans, moves_pass, moves_here, smaller}
-use Rattle.prof_json.proofs.Runs.{run_some, run_here, run_within}
-use Rattle.prof_json.proofs.Texts.{adds_none, adds_digits}
+use Rattle.prof_json.proofs.Runs.{run_some, run_here, run_within, run_is}
+use Rattle.prof_json.proofs.Texts.{adds_none, adds_digits, gains_on}
+use Rattle.prof_grammar.specs.Machine.{digits}
+use Rattle.prof_json.specs.Writes.{silent}
+use Rattle.prof_json.proofs.Machines.{goes_trans, goes_run}
+use Rattle.prof_json.proofs.Turns.{digits_on}
+use Rattle.prof_json.proofs.Written.{writes_here, writes_goes, writes_on, writes_fault}
 use Rattle.prof_json.proofs.Utf8.{digits_utf8}
 use Rattle.prof_json.proofs.number.read_digits.Goals as goal
 
 pub digits-init : goal.digits-init
-digits-init g c = record { moves = moves_here _ _ _; text = adds_none }
+digits-init g c = record { moves = moves_here _ _ _; text = adds_none; exact = λ begun n s ps r h d. writes_here (λ t. digits n t ∷ ps) s h }
 
 pub push-requires : goal.push-requires
 push-requires g c = digits_utf8 c.digit_len-run.ensures.run
@@ -34,4 +39,26 @@ digits-preserved g c =
     record {
       moves = moves_pass (moves_trans c.digits.invariant.moves c.in-Ok-Some.ensures.moves) c.pass.ensures;
       text = adds_digits c.digits.invariant.text c.digit_len-run.ensures.run c.in_default.ensures.ok;
+      exact = λ begun n s ps r h d.
+          let w = c.digits.invariant.exact begun n s ps r h d in
+          let to = λ (t : List ℕ). digits n t ∷ ps in
+          let peeked = goes_trans w.goes (c.in-Ok-Some.ensures.exact (to w.text)) in
+          let run = goes_run to w.text _ c.digit_len-run.result (λ s b h. digits_on r ps s b h) (λ s. d) c.digit_len-run.ensures.run
+          (run_is c.peek.new.self c.digit_len-run.result _ c.ahead-ahead.ensures c.digit_len-run.ensures.within) c.pass.ensures in
+          writes_goes silent to _ (gains_on (w.kept refl) c.in_default.ensures.ok) (goes_trans peeked run);
     }
+
+pub returns-in-Err-clause-exact : goal.returns-in-Err-clause-exact
+returns-in-Err-clause-exact g c = λ begun n s ps r h d.
+    let w = c.digits.invariant.exact begun n s ps r h d in
+    writes_on w.goes (writes_fault (c.in-Err.ensures.exact (digits n w.text ∷ ps)))
+
+pub returns-in-Ok-None-clause-exact : goal.returns-in-Ok-None-clause-exact
+returns-in-Ok-None-clause-exact g c = λ begun n s ps r h d.
+    let w = c.digits.invariant.exact begun n s ps r h d in
+    writes_goes silent (λ t. digits n t ∷ ps) w.text (w.kept refl) (goes_trans w.goes (c.in-Ok-None.ensures.exact (digits n w.text ∷ ps)))
+
+pub returns-then-not-is_digit-clause-exact : goal.returns-then-not-is_digit-clause-exact
+returns-then-not-is_digit-clause-exact g c = λ begun n s ps r h d.
+    let w = c.digits.invariant.exact begun n s ps r h d in
+    writes_goes silent (λ t. digits n t ∷ ps) w.text (w.kept refl) (goes_trans w.goes (c.in-Ok-Some.ensures.exact (digits n w.text ∷ ps)))

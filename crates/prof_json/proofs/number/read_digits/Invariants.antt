@@ -1,7 +1,12 @@
-use Rattle.std.proofs.Common.{◌-◌}
+use Rattle.std.proofs.Common.{ℕ, ◌-◌, ◌≤◌, List, ◌∷◌}
+use Rattle.prof_grammar.specs.Machine.{Part, Stage, digits}
+use Rattle.prof_grammar.specs.Reading.{max_depth}
+use Rattle.prof_grammar.specs.Told.{depth}
+use Rattle.prof_json.specs.Writes.{Writes, silent}
+use Rattle.prof_json.specs.Stages.{IsRunning}
 use Rattle.std.specs.Prelude.{None}
 use Rattle.prof_time.specs.Numeral.{AreDigits}
-use Rattle.prof_json.specs.Kept.{Adds}
+use Rattle.prof_json.specs.Kept.{Kept, Adds, Gains}
 use Rattle.prof_json.specs.Moves.{Moves, lent}
 use Rattle.prof_json.proofs.number.read_digits.Given as goal
 
@@ -11,6 +16,8 @@ invariant-digits g l = record {
       (g.S.Counted.sure l.fn.src) l.fn.input (lent (g.S.Counted.left l.fn.src) (g.S.Counted.written l.fn.src) (g.S.Counted.place l.fn.src) (g.S.Counted.faults l.fn.src))
       (g.S.Counted.sure l.src) l.input (lent (g.S.Counted.left l.src) (g.S.Counted.written l.src) (g.S.Counted.place l.src) (g.S.Counted.faults l.src));
   text : Adds AreDigits l.fn.text l.text;
+  exact : (begun : Kept) (n : Stage) (s : List ℕ) (ps : List Part) → IsRunning n → Gains begun s l.fn.text → depth ps ≤ max_depth →
+      Writes None begun l.fn.input (g.S.Counted.left l.fn.src) (digits n s ∷ ps) silent l.input (g.S.Counted.left l.src) l.text (λ t. digits n t ∷ ps);
 }
 
 abbrev pub decreases-digits : goal.decreases-digits

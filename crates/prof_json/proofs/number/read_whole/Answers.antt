@@ -1,32 +1,55 @@
-use Rattle.std.proofs.Common.{◌≡◌, true, arith, lit<}
-use Rattle.std.proofs.lemmas.Grind.{common_steps}
-use Rattle.prof_json.specs.Bytes.{is_digit}
-use Rattle.prof_json.proofs.Journeys.{moves_trans, moves_pass, on_ok, on_ok_map, further}
-use Rattle.prof_json.proofs.Texts.{adds_zero, adds_int}
+use Rattle.std.proofs.Common.{ℕ, List, [], ◌∷◌, ◌++◌, arith}
+use Rattle.prof_grammar.specs.Machine.{digits}
+use Rattle.prof_json.specs.Writes.{silent}
+use Rattle.prof_json.specs.Stages.{whole_stage}
+use Rattle.prof_json.proofs.Journeys.{moves_trans, moves_pass, moves_here, on_ok, on_ok_map, if_ok_map, if_ok_all}
+use Rattle.prof_json.proofs.Texts.{adds_zero, adds_int, gains_on}
+use Rattle.prof_json.proofs.Machines.{goes_byte}
+use Rattle.prof_json.proofs.Turns as t
+use Rattle.prof_json.proofs.Written.{writes_goes, writes_on}
 use Rattle.prof_json.proofs.Utf8.{digit_small}
 use Rattle.prof_json.proofs.number.read_whole.Goals as goal
 
+pub read_byte-requires-clause-small : goal.read_byte-requires-clause-small
+read_byte-requires-clause-small g c = digit_small c.args.first c.requires.digit
+
 pub returns-then-first-eq48-clause-moves : goal.returns-then-first-eq48-clause-moves
-returns-then-first-eq48-clause-moves g c = moves_trans (moves_pass c.in_ok-first.ensures.moves c.in_ok-read_byte.ensures.passed) c.peek.ensures.moves
+returns-then-first-eq48-clause-moves g c = moves_trans (moves_pass (moves_here _ _ _) c.in_ok-read_byte.ensures.passed) c.peek.ensures.moves
 
 pub returns-then-first-eq48-clause-text : goal.returns-then-first-eq48-clause-text
 returns-then-first-eq48-clause-text g c = on_ok c.peek.result (adds_zero c.if-first-eq48.true c.in_ok-read_byte.ensures.text)
 
 pub returns-then-first-eq48-clause-further : goal.returns-then-first-eq48-clause-further
-returns-then-first-eq48-clause-further g c = on_ok c.peek.result (further c.args.input.now c.need.new.self c.read_byte.new.input c.peek.new.self 1 c.in_ok-first.ensures.moves.on (lit< tt) c.in_ok-read_byte.ensures.passed c.peek.ensures.moves.on)
+returns-then-first-eq48-clause-further g c =
+    let p = c.in_ok-read_byte.ensures.passed.place in
+    let q = c.peek.ensures.moves.on in
+    on_ok c.peek.result (omega arith)
 
-pub read_byte-requires-2-clause-small : goal.read_byte-requires-2-clause-small
-read_byte-requires-2-clause-small g c =
-    let is : is_digit c.in_ok-first.first ≡ true = grind (arith, common_steps, c.is_digit.ensures) in
-    digit_small c.in_ok-first.first is
+pub returns-then-first-eq48-clause-over : goal.returns-then-first-eq48-clause-over
+returns-then-first-eq48-clause-over g c = if_ok_all c.peek.result (λ o. t.ends_zero c.args.first o c.if-first-eq48.true)
+
+pub returns-then-first-eq48-clause-exact : goal.returns-then-first-eq48-clause-exact
+returns-then-first-eq48-clause-exact g c = λ begun s qs ps e h d.
+    let to = λ (t : List ℕ). digits (whole_stage c.args.first) t ∷ ps in
+    writes_on (goes_byte c.args.first c.requires.next c.in_ok-read_byte.ensures.passed e d)
+    (writes_goes silent to (s ++ c.args.first ∷ []) (gains_on h c.in_ok-read_byte.ensures.text) (c.peek.ensures.exact (to (s ++ c.args.first ∷ []))))
 
 pub returns-clause-moves : goal.returns-clause-moves
-returns-clause-moves g c = moves_trans (moves_pass c.in_ok-first.ensures.moves c.in_ok-read_byte-2.ensures.passed) c.read_digits.ensures.moves
+returns-clause-moves g c = moves_trans (moves_pass (moves_here _ _ _) c.in_ok-read_byte.ensures.passed) c.read_digits.ensures.moves
 
 pub returns-clause-text : goal.returns-clause-text
-returns-clause-text g c =
-    let is : is_digit c.in_ok-first.first ≡ true = grind (arith, common_steps, c.is_digit.ensures) in
-    on_ok_map c.read_digits.result (adds_int c.if-first-eq48.false is c.in_ok-read_byte-2.ensures.text) c.read_digits.ensures.text
+returns-clause-text g c = on_ok_map c.read_digits.result (adds_int c.if-first-eq48.false c.requires.digit c.in_ok-read_byte.ensures.text) c.read_digits.ensures.text
 
 pub returns-clause-further : goal.returns-clause-further
-returns-clause-further g c = on_ok c.read_digits.result (further c.args.input.now c.need.new.self c.read_byte-2.new.input c.read_digits.new.input 1 c.in_ok-first.ensures.moves.on (lit< tt) c.in_ok-read_byte-2.ensures.passed c.read_digits.ensures.moves.on)
+returns-clause-further g c =
+    let p = c.in_ok-read_byte.ensures.passed.place in
+    let q = c.read_digits.ensures.moves.on in
+    on_ok c.read_digits.result (omega arith)
+
+pub returns-clause-over : goal.returns-clause-over
+returns-clause-over g c = if_ok_map c.read_digits.result (λ o d. t.ends_whole c.args.first o c.if-first-eq48.false d) c.read_digits.ensures.behind
+
+pub returns-clause-exact : goal.returns-clause-exact
+returns-clause-exact g c = λ begun s qs ps e h d.
+    writes_on (goes_byte c.args.first c.requires.next c.in_ok-read_byte.ensures.passed e d)
+    (c.read_digits.ensures.exact begun (whole_stage c.args.first) (s ++ c.args.first ∷ []) ps (t.whole_runs c.args.first c.if-first-eq48.false) (gains_on h c.in_ok-read_byte.ensures.text) d)

@@ -1,8 +1,11 @@
-use Rattle.std.proofs.Common.{◌≡◌, ◌≢◌, ◌<◌, ◌≤◌, length, sym, ap, subst, ◌∙◌, inl, arith}
+use Rattle.std.proofs.Common.{refl, ◌<◌, ◌≤◌, length, sym, subst, ◌∙◌, inl, arith}
 use Rattle.prof_json.specs.Nest.{Occurs}
 use Rattle.prof_json.specs.declared.nesting.Phase.{Phase}
-use Rattle.prof_json.proofs.Enclosing.{outside_stays, occurs_behind, no_end, all_front}
-use Rattle.prof_json.proofs.Journeys.{moves_trans}
+use Rattle.prof_json.proofs.Enclosing.{outside_stays, occurs_behind, no_end, all_front, value_over}
+use Rattle.prof_json.proofs.Journeys.{moves_trans, moves_here}
+use Rattle.prof_json.proofs.Machines.{fails_behind}
+use Rattle.prof_json.proofs.Texts.{gains_none}
+use Rattle.prof_json.proofs.Passing.{passed_none, passed_more, passed_all}
 use Rattle.prof_json.proofs.reading.skip_events.Goals as goal
 
 pub returns-in-Err-clause-moves : goal.returns-in-Err-clause-moves
@@ -35,6 +38,9 @@ events-preserved g c =
     let deeper : c.args.opened < length v.items = omega (arith, v.ok.0, c.len.ensures, c.if-len-opened.false) in
     record {
       moves = moves_trans inv.moves c.in-Ok.ensures.moves;
+      told =
+          let w = c.in-Ok.ensures.exact c.events.text gains_none in
+          passed_more w.text inv.told c.in-Ok.ensures.ok.leads c.phase_after-phase.ensures w.goes c.requires.within deeper;
       occurs = subst (λ (q : Phase). Occurs q v.items) (sym c.phase_after-phase.ensures) (occurs_behind c.in-Ok.ensures.ok.leads);
       few = c.in-Ok.ensures.ok.few;
       same = s.0 ∙ inv.same;
@@ -48,3 +54,26 @@ returns-then-len-opened-clause-further g c =
     let more = c.in-Ok.ensures.ok.further (no_end c.in-Ok.ensures.ok.leads c.args.opened inv.inside) in
     let on = inv.moves.on in
     omega arith
+
+pub events-init : goal.events-init
+events-init g c = record {
+  moves = moves_here _ _ _;
+  told = passed_none _ _ _ _ _ c.requires.around c.requires.occurs;
+  occurs = c.requires.occurs;
+  few = c.requires.few;
+  same = refl;
+  within = c.requires.within;
+  inside = c.requires.inside;
+}
+
+pub returns-in-Err-clause-fault : goal.returns-in-Err-clause-fault
+returns-in-Err-clause-fault g c = fails_behind c.events.invariant.told.goes (c.in-Err.ensures.exact c.events.text gains_none).goes
+
+pub returns-then-len-opened-clause-told : goal.returns-then-len-opened-clause-told
+returns-then-len-opened-clause-told g c =
+    let inv = c.events.invariant in
+    let v = c.read_event.new.brackets in
+    let few : length v.items ≤ c.args.opened = omega (arith, v.ok.0, c.len.ensures, c.if-len-opened.true) in
+    let over = value_over c.in-Ok.ensures.ok.leads c.args.opened inv.within inv.inside few in
+    let w = c.in-Ok.ensures.exact c.events.text gains_none in
+    passed_all w.text inv.told c.in-Ok.ensures.ok.leads w.goes c.requires.around c.requires.within few over

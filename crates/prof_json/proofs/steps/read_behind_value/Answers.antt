@@ -1,4 +1,4 @@
-use Rattle.std.proofs.Common.{◌≡◌, ◌∙◌, sym}
+use Rattle.std.proofs.Common.{◌∙◌, sym}
 use Rattle.prof_json.proofs.Enclosing.{ends, none_last}
 use Rattle.prof_json.proofs.steps.read_behind_value.Goals as goal
 

@@ -1,7 +1,19 @@
-use Rattle.std.proofs.Common.{◌<◌, ◌≤◌, arith}
+use Rattle.std.proofs.Common.{[], ◌∷◌, refl, ◌∙◌, arith}
+use Rattle.std.specs.Prelude.{Ok}
+use Rattle.std.proofs.lemmas.Result.{err_from_is_err_and}
+use Rattle.prof_grammar.specs.Grammar.{items}
+use Rattle.prof_grammar.specs.Machine.{blank, symbol}
+use Rattle.prof_json.specs.Ahead.{IsNext}
+use Rattle.prof_json.specs.Gives.{told_by}
 use Rattle.prof_json.specs.Nest as nest
-use Rattle.prof_json.proofs.Enclosing.{steps_no_items, value_steps}
+use Rattle.prof_json.specs.Parts.{behind}
+use Rattle.prof_json.specs.declared.answer.Event.TheVariants.{ArrayEnd}
 use Rattle.prof_json.proofs.Journeys.{moves_trans, moves_pass}
+use Rattle.prof_json.proofs.Machines.{goes_trans, goes_byte}
+use Rattle.prof_json.proofs.Standing as st
+use Rattle.prof_json.proofs.Turns.{blank_over, value_cut}
+use Rattle.prof_json.proofs.Written.{writes_goes, writes_on, writes_fault}
+use Rattle.prof_json.proofs.Enclosing.{steps_no_items, value_steps}
 use Rattle.prof_json.proofs.steps.read_first_item.Goals as goal
 
 pub returns-then-first-eq93-clause-moves : goal.returns-then-first-eq93-clause-moves
@@ -19,3 +31,33 @@ returns-clause-moves g c = moves_trans c.in_ok-first.ensures.moves c.begin_value
 
 pub returns-clause-ok : goal.returns-clause-ok
 returns-clause-ok g c = value_steps _ _ _ _ c.need_behind_blank.new.input _ _ _ c.begin_value.result nest.first c.in_ok-first.ensures.moves.on c.begin_value.ensures.ok
+
+pub returns-in_err-first-clause-exact : goal.returns-in_err-first-clause-exact
+returns-in_err-first-clause-exact g c = λ begun h.
+    let r = c.from_residual in
+    let q = err_from_is_err_and r.result r.ensures.1 in
+    let w = c.requires.occurs in
+    let outer = behind w.outer in
+    let few = st.outer_few w c.requires.few in
+    rw (q.1, q.2, st.in_array w) (writes_fault (c.in_err-first.ensures.exact (symbol items ∷ outer) few (value_cut items outer)))
+
+pub returns-then-first-eq93-clause-exact : goal.returns-then-first-eq93-clause-exact
+returns-then-first-eq93-clause-exact g c = λ begun h.
+    let w = c.requires.occurs in
+    let outer = behind w.outer in
+    let few = st.outer_few w c.requires.few in
+    let needed = c.in_ok-first.ensures.exact (symbol items ∷ outer) few (value_cut items outer) in
+    let next : IsNext 93 c.need_behind_blank.new.input = rw c.if-first-eq93.true at c.in_ok-first.ensures.byte in
+    let closed = goes_byte 93 next c.close_bracket.ensures.passed (blank_over (symbol items ∷ outer) 93 refl ∙ st.items_close outer) (st.closed_few w c.requires.few) in
+    let is = c.close_bracket.ensures.closed _ w.outer w.is in
+    rw (st.in_array w) (writes_goes (told_by (Ok ArrayEnd)) (λ t. behind c.close_bracket.new.brackets.items) [] h (rw is (goes_trans needed closed)))
+
+pub returns-clause-exact : goal.returns-clause-exact
+returns-clause-exact g c = λ begun h.
+    let w = c.requires.occurs in
+    let outer = behind w.outer in
+    let few = st.outer_few w c.requires.few in
+    let first = c.in_ok-first.first in
+    let needed = c.in_ok-first.ensures.exact (symbol items ∷ outer) few (value_cut items outer) in
+    let begins = blank_over (symbol items ∷ outer) first c.in_ok-first.ensures.behind ∙ st.items_value outer first c.if-first-eq93.false in
+    rw (st.in_array w) (writes_on needed (c.begin_value.ensures.exact begun (blank ∷ symbol items ∷ outer) (rw (st.in_array w) begins) h))

@@ -1,7 +1,18 @@
-use Rattle.std.proofs.Common.{◌<◌, ◌≤◌, arith}
+use Rattle.std.proofs.Common.{List, [], ◌∷◌, refl, ◌∙◌, arith}
+use Rattle.std.specs.Prelude.{None, Ok}
 use Rattle.std.proofs.lemmas.Result.{err_from_is_err_and}
-use Rattle.prof_json.proofs.Enclosing.{steps_last_member, next_names}
+use Rattle.prof_grammar.specs.Grammar.{more_members, member}
+use Rattle.prof_grammar.specs.Machine.{Part, blank, symbol}
+use Rattle.prof_json.specs.Ahead.{IsNext}
+use Rattle.prof_json.specs.Gives.{told_by}
+use Rattle.prof_json.specs.Parts.{behind}
+use Rattle.prof_json.specs.declared.answer.Event.TheVariants.{ObjectEnd}
 use Rattle.prof_json.proofs.Journeys.{moves_trans, moves_pass}
+use Rattle.prof_json.proofs.Machines.{goes_trans, goes_byte, goes_wrong}
+use Rattle.prof_json.proofs.Standing as st
+use Rattle.prof_json.proofs.Turns.{blank_over, value_cut}
+use Rattle.prof_json.proofs.Written.{writes_goes, writes_on, writes_fault}
+use Rattle.prof_json.proofs.Enclosing.{steps_last_member, next_names}
 use Rattle.prof_json.proofs.steps.read_next_member.Goals as goal
 
 pub returns-then-first-eq125-clause-moves : goal.returns-then-first-eq125-clause-moves
@@ -29,3 +40,60 @@ returns-clause-ok g c =
     let q = c.pass.ensures.place in
     let r = c.in_ok-quote.ensures.moves.on in
     next_names _ _ c.need_behind_blank-2.new.input _ _ _ c.read_name.result c.requires.within c.requires.few (omega arith) c.read_name.ensures.ok
+
+pub returns-in_err-first-clause-exact : goal.returns-in_err-first-clause-exact
+returns-in_err-first-clause-exact g c = λ begun h.
+    let r = c.from_residual in
+    let q = err_from_is_err_and r.result r.ensures.1 in
+    let w = c.requires.within in
+    let outer = behind w.outer in
+    let few = st.outer_few w c.requires.few in
+    rw (q.1, q.2, st.in_object w) (writes_fault (c.in_err-first.ensures.exact (symbol more_members ∷ outer) few (value_cut more_members outer)))
+
+pub returns-then-first-eq125-clause-exact : goal.returns-then-first-eq125-clause-exact
+returns-then-first-eq125-clause-exact g c = λ begun h.
+    let w = c.requires.within in
+    let outer = behind w.outer in
+    let few = st.outer_few w c.requires.few in
+    let needed = c.in_ok-first.ensures.exact (symbol more_members ∷ outer) few (value_cut more_members outer) in
+    let next : IsNext 125 c.need_behind_blank.new.input = rw c.if-first-eq125.true at c.in_ok-first.ensures.byte in
+    let closed = goes_byte 125 next c.close_bracket.ensures.passed (blank_over (symbol more_members ∷ outer) 125 refl ∙ st.more_members_close outer) (st.closed_few w c.requires.few) in
+    let is = c.close_bracket.ensures.closed _ w.outer w.is in
+    rw (st.in_object w) (writes_goes (told_by (Ok ObjectEnd)) (λ t. behind c.close_bracket.new.brackets.items) [] h (rw is (goes_trans needed closed)))
+
+pub returns-then-first-ne44-clause-exact : goal.returns-then-first-ne44-clause-exact
+returns-then-first-ne44-clause-exact g c = λ begun h.
+    let w = c.requires.within in
+    let outer = behind w.outer in
+    let few = st.outer_few w c.requires.few in
+    let first = c.in_ok-first.first in
+    let needed = c.in_ok-first.ensures.exact (symbol more_members ∷ outer) few (value_cut more_members outer) in
+    let wrong = blank_over (symbol more_members ∷ outer) first c.in_ok-first.ensures.behind ∙ st.more_members_wrong outer first c.if-first-eq125.false c.if-first-ne44.true in
+    rw (st.in_object w) (writes_fault (goes_trans needed (goes_wrong {b = c.args.input.now} {m = None} {qs = []} {es = []} first c.in_ok-first.ensures.byte wrong c.wrong.ensures)))
+
+pub returns-in_err-quote-clause-exact : goal.returns-in_err-quote-clause-exact
+returns-in_err-quote-clause-exact g c = λ begun h.
+    let r = c.from_residual-in_err-quote in
+    let q = err_from_is_err_and r.result r.ensures.1 in
+    let w = c.requires.within in
+    let outer = behind w.outer in
+    let few = st.outer_few w c.requires.few in
+    let needed = c.in_ok-first.ensures.exact (symbol more_members ∷ outer) few (value_cut more_members outer) in
+    let next : IsNext 44 c.need_behind_blank.new.input = rw c.if-first-ne44.false at c.in_ok-first.ensures.byte in
+    let comma = goes_byte 44 next c.pass.ensures (blank_over (symbol more_members ∷ outer) 44 refl ∙ st.more_members_comma outer) few in
+    let ps : List Part = symbol more_members ∷ outer in
+    rw (q.1, q.2, st.in_object w) (writes_fault (goes_trans (goes_trans needed comma) (c.in_err-quote.ensures.exact (symbol member ∷ ps) few (value_cut member ps))))
+
+pub returns-clause-exact : goal.returns-clause-exact
+returns-clause-exact g c = λ begun h.
+    let w = c.requires.within in
+    let outer = behind w.outer in
+    let few = st.outer_few w c.requires.few in
+    let xs = c.args.brackets.now.items in
+    let needed = c.in_ok-first.ensures.exact (symbol more_members ∷ outer) few (value_cut more_members outer) in
+    let next : IsNext 44 c.need_behind_blank.new.input = rw c.if-first-ne44.false at c.in_ok-first.ensures.byte in
+    let comma = goes_byte 44 next c.pass.ensures (blank_over (symbol more_members ∷ outer) 44 refl ∙ st.more_members_comma outer) few in
+    let ps : List Part = symbol more_members ∷ outer in
+    let quote = goes_trans (goes_trans needed comma) (c.in_ok-quote.ensures.exact (symbol member ∷ ps) few (value_cut member ps)) in
+    let named = st.takes_next_name w c.in_ok-quote.quote c.in_ok-quote.ensures.behind in
+    rw (st.in_object w) (writes_on quote (c.read_name.ensures.exact begun (blank ∷ symbol member ∷ ps) xs named h c.requires.few))

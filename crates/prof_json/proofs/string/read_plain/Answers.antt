@@ -1,6 +1,15 @@
-use Rattle.std.proofs.Common.{◌<◌, arith, inl, inr, refl}
+use Rattle.std.proofs.Common.{◌≡◌, inl, inr, ℕ, List, [], ◌∷◌, ◌++◌, false, length, take, refl, sym, arith, ◌<◌}
+use Rattle.std.specs.Prelude.{None}
+use Rattle.std.proofs.lemmas.List.{length-take}
 use Rattle.std.proofs.lemmas.Result.{err_from_is_err_and}
-use Rattle.prof_json.proofs.Runs.{run_here, run_fits}
+use Rattle.prof_grammar.specs.Machine.{chars, nothing, settled}
+use Rattle.prof_json.specs.Bytes.{is_plain}
+use Rattle.prof_json.specs.Writes.{silent}
+use Rattle.prof_json.proofs.Runs.{run_some, run_here, run_fits, run_is}
+use Rattle.prof_json.proofs.Texts.{gains_on}
+use Rattle.prof_json.proofs.Machines.{goes_wrong, goes_run}
+use Rattle.prof_json.proofs.Turns as t
+use Rattle.prof_json.proofs.Written.{writes_goes, writes_fault}
 use Rattle.prof_json.proofs.Utf8.{plain_utf8}
 use Rattle.prof_json.proofs.string.read_plain.Goals as goal
 
@@ -26,3 +35,20 @@ returns-in_err-push-clause-err c =
     let r = c.from_residual in
     let p = err_from_is_err_and r.result r.ensures.1 in
     rw (p.1, p.2) (refl, inl c.in_err-push.ensures.err)
+
+pub returns-then-run-eq0-clause-exact : goal.returns-then-run-eq0-clause-exact
+returns-then-run-eq0-clause-exact c = λ left begun k s p ps h d.
+    let first = c.args.first in
+    let no : is_plain first ≡ false = t.not_plain first c.plain_len-run.result (λ is. run_some is_plain c.args.input.now first c.plain_len-run.result _ c.requires.next c.ahead-ahead.ensures c.plain_len-run.ensures.stop is) c.if-run-eq0.true in
+    writes_fault (goes_wrong {b = c.args.input.now} {m = None} {qs = ps} {es = []} first c.requires.next
+    (t.text_wrong k s p ps first (t.bad_ascii first no c.requires.ascii.0 c.requires.ascii.1 c.requires.ascii.2)) c.wrong.ensures)
+
+pub returns-clause-exact : goal.returns-clause-exact
+returns-clause-exact c = λ left begun k s p ps h d.
+    let n = c.plain_len-run.result in
+    let run = take n c.ahead-ahead.result.now in
+    let some : 0 < length run = let many : 0 < n = omega arith in omega (arith, length-take n c.ahead-ahead.result.now, c.plain_len-run.ensures.within) in
+    let to = λ (t : List ℕ). chars k t None nothing ∷ ps in
+    let went = goes_run {l = left} (t.plain_from k s p ps) [] run n (λ xs b h. t.plain_from_on k s p ps xs b h) (λ xs. t.plain_from_depth k s p ps xs d) c.plain_len-run.ensures.run
+    (run_is c.args.input.now n c.ahead-ahead.result.now c.ahead-ahead.ensures c.plain_len-run.ensures.within) c.pass.ensures in
+    writes_goes silent to (settled s p ++ run) (gains_on h c.in_ok-push.ensures.ok) (rw (t.plain_from_none k s p ps, sym (t.plain_from_some k s p ps run some)) went)

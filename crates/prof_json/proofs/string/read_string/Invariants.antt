@@ -1,6 +1,11 @@
-use Rattle.std.proofs.Common.{◌≡◌, ◌-◌, true}
+use Rattle.std.proofs.Common.{◌≡◌, ◌-◌, ◌≤◌, ℕ, List, ◌∷◌, true}
 use Rattle.std.specs.Prelude.{None, IfSome}
 use Rattle.std.specs.Char.Utf16.{is_high_surrogate}
+use Rattle.prof_grammar.specs.Machine.{Part, Role, chars, nothing}
+use Rattle.prof_grammar.specs.Reading.{max_depth}
+use Rattle.prof_grammar.specs.Told.{depth}
+use Rattle.prof_json.specs.Writes.{Writes, silent}
+use Rattle.prof_json.specs.Kept.{Kept, Gains}
 use Rattle.prof_json.specs.Moves.{Moves, lent}
 use Rattle.prof_json.proofs.string.read_string.Given as goal
 
@@ -9,6 +14,8 @@ invariant-pieces g l = record {
   moves : Moves None
       (g.S.Counted.sure l.fn.src) l.fn.input (lent (g.S.Counted.left l.fn.src) (g.S.Counted.written l.fn.src) (g.S.Counted.place l.fn.src) (g.S.Counted.faults l.fn.src))
       (g.S.Counted.sure l.src) l.input (lent (g.S.Counted.left l.src) (g.S.Counted.written l.src) (g.S.Counted.place l.src) (g.S.Counted.faults l.src));
+  exact : (begun : Kept) (k : Role) (s : List ℕ) (ps : List Part) → Gains begun s l.fn.text → depth ps ≤ max_depth →
+      Writes None begun l.fn.input (g.S.Counted.left l.fn.src) (chars k s None nothing ∷ ps) silent l.input (g.S.Counted.left l.src) l.text (λ t. chars k t l.high nothing ∷ ps);
   waits : IfSome l.high (λ u. is_high_surrogate u ≡ true);
 }
 

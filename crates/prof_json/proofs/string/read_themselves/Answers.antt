@@ -1,5 +1,9 @@
-use Rattle.std.proofs.Common.{◌<◌, ◌≤◌, arith}
-use Rattle.prof_json.proofs.Journeys.{moves_plain, on_ok_map, moves_wrong, moves_here}
+use Rattle.std.proofs.Common.{[], arith}
+use Rattle.std.specs.Prelude.{None}
+use Rattle.prof_json.proofs.Journeys.{moves_here, moves_wrong, moves_plain, on_ok_map}
+use Rattle.prof_json.proofs.Machines.{goes_wrong}
+use Rattle.prof_json.proofs.Turns as t
+use Rattle.prof_json.proofs.Written.{writes_fault}
 use Rattle.prof_json.proofs.string.read_themselves.Goals as goal
 
 pub returns-then-first-lt128-clause-moves : goal.returns-then-first-lt128-clause-moves
@@ -10,3 +14,11 @@ returns-then-first-lt128-clause-further g c = on_ok_map c.read_plain.result (λ 
 
 pub returns-then-first-lt194-clause-moves : goal.returns-then-first-lt194-clause-moves
 returns-then-first-lt194-clause-moves g c = moves_wrong c.wrong.ensures (moves_here _ _ _)
+
+pub returns-then-first-lt194-clause-exact : goal.returns-then-first-lt194-clause-exact
+returns-then-first-lt194-clause-exact g c = λ begun k s p ps h d.
+    writes_fault (goes_wrong {b = c.args.input.now} {m = None} {qs = ps} {es = []} c.args.first c.requires.next (t.text_wrong k s p ps c.args.first (t.bad_middle c.args.first c.if-first-lt128.false c.if-first-lt194.true)) c.wrong.ensures)
+
+pub returns-clause-exact : goal.returns-clause-exact
+returns-clause-exact g c = λ begun k s p ps h d.
+    writes_fault (goes_wrong {b = c.args.input.now} {m = None} {qs = ps} {es = []} c.args.first c.requires.next (t.text_wrong k s p ps c.args.first (t.bad_high c.args.first c.if-first-lt245.false)) c.wrong-2.ensures)

@@ -62,5 +62,5 @@ invariant_of-result c =
 pub returns : goal.returns
 returns c =
     let texts : c.in_ok-strings.strings.value ≡ c.args.raw.now.strings = c.in_ok-strings.ensures.cases ∙ ap (λ (r : SharedCells). r.strings) c.raw.view_is in
-    same_shared c.args.categories c.args.default c.args.raw.now _ _ _ _ _
-    texts c.in_ok-resources.ensures.rows c.in_ok-funcs.ensures.rows c.in_ok-frames.ensures.rows (c.of.ensures ∙ c.in_ok-rows.ensures.rows)
+    same_shared c.args.categories c.args.default c.args.raw.now _ _ _ _ _ _
+    texts c.in_ok-resources.ensures.rows c.in_ok-funcs.ensures.rows c.in_ok-frames.ensures.rows (c.of.ensures ∙ c.in_ok-rows.ensures.rows) c.in_ok-stack_frames.ensures.rows

@@ -1,0 +1,11 @@
+pub mod Fronts
+pub mod Steps
+pub mod Blame
+pub mod Nests
+pub mod Kept
+pub mod Comings
+pub mod SoFar
+pub mod Skipped
+pub mod Values
+pub mod Turnings
+pub mod Wholes

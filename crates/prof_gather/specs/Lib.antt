@@ -1,0 +1,9 @@
+pub mod Marks
+pub mod Hashing
+pub mod Reading
+pub mod Refusals
+pub mod Feeding
+pub mod Keeping
+pub mod Taking
+pub mod Causes
+pub mod Whole

@@ -1,0 +1,15 @@
+//! JSON texts, gathered member by member and item by item out of a source whose bytes are hashed.
+#![tactic(auto)]
+
+mod feed;
+mod hashed;
+mod lent;
+mod objects;
+mod refusal;
+mod whole;
+
+pub use feed::Feed;
+pub use hashed::Start;
+pub use objects::{Found, FromItems, FromMembers, Kind, array, members, object, skip_behind};
+pub use refusal::GatherRefusal;
+pub use whole::{Digest, read_object};

@@ -1,0 +1,5 @@
+use Rattle.prof_json.proofs.Fresh as f
+use Rattle.prof_json.proofs.laws.tells_all.Goals as goal
+
+pub returns : goal.returns
+returns c = f.tells_all

@@ -1,0 +1,17 @@
+pub mod Numbers
+pub mod Clamped
+pub mod Capped
+pub mod Texts
+pub mod Examples
+pub mod Kept
+pub mod KeptOwn
+pub mod KeptValue
+pub mod Members
+pub mod Items
+pub mod Gathering
+pub mod MarkerTexts
+pub mod Choices
+pub mod ReadCells
+pub mod Checking
+pub mod Profiles
+pub mod KeptFrom

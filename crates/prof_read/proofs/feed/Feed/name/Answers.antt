@@ -1,7 +1,0 @@
-use Rattle.std.proofs.Common.{ap, ◌∙◌}
-use Rattle.prof_read.specs.Feeding.{Told}
-use Rattle.prof_read.proofs.Kept.{name_text}
-use Rattle.prof_read.proofs.feed.Feed.name.Goals as goal
-
-pub text-requires : goal.text-requires
-text-requires g c = name_text _ _ (ap (λ (t : Told). t.last) c.self.view_is ∙ c.requires.last)
