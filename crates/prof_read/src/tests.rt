@@ -1,6 +1,5 @@
 //! What is read of small texts.
 use crate::*;
-use prof_gather::GatherRefusal;
 use prof_io::SteadySource;
 use prof_json::JsonFault;
 use prof_tables::{Broken, Column, Profile, Rule, SampleRow, Table, Unit};
@@ -16,7 +15,7 @@ const SAMPLES: &str =
 
 const META: &str = "{\"meta\":{\"preprocessedProfileVersion\":47},\"libs\":[],";
 
-type Answer = Result<(Profile, Digest, Form), GatherRefusal>;
+type Answer = Result<(Profile, Digest, Form), ReadRefusal>;
 
 fn joined(alloc: Global, parts: &[&str]) -> Result<Vec<u8>, Fail> {
     let mut bytes = Vec::new(alloc);
@@ -35,7 +34,7 @@ fn read(alloc: Global, parts: &[&str]) -> Result<Answer, Fail> {
 /// The rule that a text breaks, with its place.
 fn broken(alloc: Global, parts: &[&str]) -> Result<Option<Broken>, Fail> {
     Ok(match read(alloc, parts)? {
-        Err(GatherRefusal::Broken(broken)) => Some(broken),
+        Err(ReadRefusal::Broken(broken)) => Some(broken),
         _ => None,
     })
 }
@@ -339,7 +338,7 @@ fn faults_of_json_go_first(rt: HostRuntime) -> Result<(), Fail> {
         let refused = read(alloc, &[text])?.err();
         assert_eq!(rt;
             refused,
-            Some(GatherRefusal::Json(JsonFault::NotJson { at })),
+            Some(ReadRefusal::Json(JsonFault::NotJson { at })),
             "{text}"
         );
     }
@@ -351,7 +350,7 @@ fn faults_of_json_go_first(rt: HostRuntime) -> Result<(), Fail> {
     let refused = read_profile(alloc, &mut src).err();
     assert_eq!(rt;
         refused,
-        Some(GatherRefusal::Json(JsonFault::TooDeep { at: 256 }))
+        Some(ReadRefusal::Json(JsonFault::TooDeep { at: 256 }))
     );
     Ok(())
 }

@@ -81,6 +81,14 @@ pub const GECKO: &str = "{\"meta\":{\"version\":27},\"threads\":[]}";
 /// A value that is no profile.
 pub const NO_META: &str = "[]";
 
+/// The first behind a byte order mark.
+pub const MARKED: &str =
+    "\u{feff}{\"meta\":{\"preprocessedProfileVersion\":47},\"libs\":[],\"threads\":[{\"name\":\"T\",\"stringArray\":[\"A\",\"B\",\"C\",\"D\",\"app\"],\"resourceTable\":{\"name\":[4],\"length\":1},\"funcTable\":{\"name\":[0,1,2,3],\"isJS\":[false,false,false,true],\"relevantForJS\":[false,false,false,false],\"resource\":[-1,0,0,-1],\"fileName\":[null,null,null,null],\"length\":4},\"frameTable\":{\"func\":[0,1,2,3],\"category\":[null,null,null,null],\"length\":4},\"stackTable\":{\"prefix\":[null,0,1,2,3,null],\"frame\":[0,1,2,1,3,3],\"length\":6},\"samples\":{\"stack\":[2,4,4,1,5,null],\"time\":[0,1,2,3,4,5],\"length\":6}}]}";
+
+/// The first with its columns and lengths in another order.
+pub const REORDERED: &str =
+    "{\"meta\":{\"preprocessedProfileVersion\":47},\"libs\":[],\"threads\":[{\"name\":\"T\",\"stringArray\":[\"A\",\"B\",\"C\",\"D\",\"app\"],\"resourceTable\":{\"name\":[4],\"length\":1},\"funcTable\":{\"name\":[0,1,2,3],\"isJS\":[false,false,false,true],\"relevantForJS\":[false,false,false,false],\"resource\":[-1,0,0,-1],\"fileName\":[null,null,null,null],\"length\":4},\"frameTable\":{\"func\":[0,1,2,3],\"category\":[null,null,null,null],\"length\":4},\"stackTable\":{\"length\":6,\"frame\":[0,1,2,1,3,3],\"prefix\":[null,0,1,2,3,null]},\"samples\":{\"length\":6,\"time\":[0,1,2,3,4,5],\"stack\":[2,4,4,1,5,null]}}]}";
+
 /// What `tree` writes of the first.
 pub const TREE: &str =
     "ok 0\ntree plain unit samples nodes 6 selected 6 dropped 1\n0 4 0 0 0 \"A\"\n1 4 1 0 1 \"B\"\n2 3 1 0 2 \"C\"\n3 2 0 0 1 \"B\"\n4 2 2 0 3 \"D\"\n0 1 1 0 3 \"D\"\n";

@@ -87,6 +87,8 @@ fn trees_are_written(rt: HostRuntime) -> Result<(), Fail> {
     let cases = [
         (of::P, of::TREE),
         (of::SHARED, of::TREE),
+        (of::MARKED, of::TREE),
+        (of::REORDERED, of::TREE),
         (of::TIME_NEAR, of::TREE),
         (of::TIME_NONE, of::TREE),
         (of::DOUBLED_THREADS, of::TREE),
