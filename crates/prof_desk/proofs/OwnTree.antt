@@ -10,26 +10,11 @@ use Rattle.prof_tables.specs.Threads.{ThreadTables}
 use Rattle.prof_tables.specs.Paths.{path}
 use Rattle.prof_tables.specs.Ties.{IsStackRow}
 use Rattle.prof_tree.specs.declared.node.Node.{Node}
-use Rattle.prof_tree.specs.declared.builder.TreeBuilder.{TreeBuilder}
-use Rattle.prof_tree.specs.Building.{Holds}
 use Rattle.prof_tree.specs.Nodes.{Weighed, nodes_of}
 use Rattle.prof_tree.proofs.Known.{nodes_of-known}
-use Rattle.prof_desk.specs.Own.{own_path}
+use Rattle.prof_tree.specs.Weighing.{own_path}
 use Rattle.prof_desk.specs.Replies.{HasFuncs}
 use Rattle.prof_desk.proofs.Rows.{found_at, path_within-known}
-
--- one more sample
-pub own_more : (t : ThreadTables) (k : ℕ) (s : SampleRow) (x : List Step) → slice_get t.samples k ≡ Some s → x ≡ path t.shared.stacks s.stack
-    → map (own_path t) (take k t.samples) ++ record { steps = x; weight = s.weight } ∷ [] ≡ map (own_path t) (take (k + 1) t.samples)
-own_more t k s x here is =
-    ap (λ (y : List Step). map (own_path t) (take k t.samples) ++ record { steps = y; weight = s.weight } ∷ []) is
-    ∙ sym (map-append (own_path t) (take k t.samples) (s ∷ []))
-    ∙ ap (λ y. map (own_path t) (take k t.samples ++ y ∷ [])) (sym (found_at t.samples k s here))
-    ∙ ap (map (own_path t)) (sym (take_more t.samples k s (slice_get_within t.samples k s here)))
-
--- all samples were added
-pub all_held : (t : ThreadTables) (k : ℕ) (b : TreeBuilder) → length t.samples ≤ k → Holds (map (own_path t) (take k t.samples)) b → Holds (map (own_path t) t.samples) b
-all_held t k b past h = subst (λ ss. Holds (map (own_path t) ss) b) (take_all k t.samples past) h
 
 -- the functions of the samples' paths are the thread's
 own_known : (t : ThreadTables) → All (IsStackRow (length t.shared.funcs) t.shared.categories) t.shared.stacks → (ss : List SampleRow)

@@ -1,7 +1,6 @@
 pub mod Breaks
 pub mod Lines
 pub mod Output
-pub mod Own
 pub mod Playing
 pub mod Quoted
 pub mod Replies

@@ -15,7 +15,7 @@ mod words;
 pub use breaks::{broken_text, fault_text};
 pub use desk::run;
 pub use lines::{Line, node_head, tree_head};
-pub use own::own_tree;
+pub use own::opened_tree;
 pub use playing::PlayEnd;
 pub use reply::{Refusal, Reply, reply_text};
 pub use status::Status;

@@ -1,18 +1,17 @@
-// The tree of a thread's samples by their own paths.
-ghost use Rattle.std.specs.Prelude.{◌≡◌, [], IfOk};
+// The tree of a thread that was just opened.
+ghost use Rattle.std.specs.Prelude.{◌≡◌, ◌+◌, ◌≤◌, [], length, IfOk};
 ghost use Rattle.prof_tree.specs.Views.{plain_tree, selected_weight, dropped_weight};
 ghost use Rattle.prof_desk.specs.Output.{fresh};
 ghost use Rattle.prof_desk.specs.Replies.{HasFuncs};
 
 use prof_io::{NoMemory, Steps};
-use prof_path::path_of;
 use prof_tables::Thread;
-use prof_tree::{Tree, TreeBuilder};
+use prof_tree::{Tree, own_tree};
 use std::alloc::Global;
 use std::sync::ledger::Ledger;
 
-/// The plain tree that a session shows of a thread when it has just been opened. It holds one sample's path at a time.
-pub fn own_tree<L: Ledger>(
+/// The plain tree that a session shows of a thread when it has just been opened: that of each sample's own path.
+pub fn opened_tree<L: Ledger>(
     alloc: Global,
     thread: &Thread,
     reads: &mut Steps<L>,
@@ -21,15 +20,10 @@ pub fn own_tree<L: Ledger>(
     ensures selected { IfOk result (λ tree. tree.selected ≡ selected_weight thread.now fresh []) }
     ensures dropped { IfOk result (λ tree. tree.dropped ≡ dropped_weight thread.now fresh []) }
     ensures funcs { IfOk result (λ tree. HasFuncs thread.now tree.nodes.items) }
+    ensures once { reads.new ≤ reads.old + length thread.now.shared.stacks }
 {
-    // What is known of the rows: their functions, and that they are fewer than 2^32.
+    // What is known of the rows: their functions.
     let _rows = thread.stacks().count();
-    let mut builder = TreeBuilder::new(alloc);
-    for k in 0..thread.sample_count() {
-        let sample = thread.sample(k);
-        let path = path_of(alloc, thread, sample.stack, reads)?;
-        builder.add(path.as_slice(), sample.weight)?;
-    }
-    let tree = builder.finish(alloc, thread.default_category())?;
+    let tree = own_tree(alloc, thread, reads)?;
     Ok(tree)
 }

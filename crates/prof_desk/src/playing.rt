@@ -7,7 +7,7 @@ ghost use Rattle.prof_desk.specs.Replies.{HasFuncs, tree_text};
 ghost use Rattle.prof_desk.specs.Telling.{line};
 ghost use Rattle.prof_desk.specs.Writing.{Writes};
 
-use crate::own::own_tree;
+use crate::own::opened_tree;
 use crate::reply::{Refusal, Reply, reply_text};
 use prof_io::{OutFault, Sink, Steps};
 use prof_tables::{Profile, Thread};
@@ -58,7 +58,7 @@ pub fn write_tree<S: Sink, L: Ledger>(
             Err(_) => Err(PlayEnd::OutFault),
         };
     };
-    let Ok(tree) = own_tree(alloc, thread, reads) else {
+    let Ok(tree) = opened_tree(alloc, thread, reads) else {
         return Err(PlayEnd::NoMemory);
     };
     match write_opened(out, thread, tree) {

@@ -62,7 +62,7 @@ fn escaped(byte: u8) -> ArrayString<8>
 
 #[tactic(auto, using(crate::proofs::Quoting::plain_more))]
 /// How many bytes at the front stand for themselves.
-fn plain_len(bytes: &[u8]) -> usize
+pub fn plain_len(bytes: &[u8]) -> usize
     ensures within { result ≤ length bytes.now }
     ensures plain { flat_map escaped (take result bytes.now) ≡ take result bytes.now }
     ensures stop { result < length bytes.now → is_plain (slice_index bytes.now result) ≡ false }

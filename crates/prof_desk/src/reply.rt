@@ -1,14 +1,15 @@
 // The answers to requests, and their texts.
-ghost use Rattle.std.specs.Prelude.{◌≡◌, ◌+◌, ◌<◌, ◌≤◌, length, option_copied, codes, ◌++◌};
+ghost use Rattle.std.specs.Prelude.{◌≡◌, ◌+◌, ◌<◌, ◌≤◌, length, option_copied, codes, ◌++◌, IfSome};
 ghost use Rattle.std.specs.List.{flat_map};
 ghost use Rattle.std.specs.Fmt.{decimal};
-ghost use Rattle.prof_desk.specs.Lines.{tree_head};
+ghost use Rattle.prof_desk.specs.Lines.{node_head, tree_head};
+ghost use Rattle.prof_desk.specs.Quoted.{quoted};
 ghost use Rattle.prof_desk.specs.Replies.{CanTell, HasFuncs, node_line, refusal_text, reply_bytes, tree_text, unit_text};
 ghost use Rattle.prof_desk.specs.Telling.{line};
 ghost use Rattle.prof_desk.specs.Writing.{Writes};
 
 use crate::lines::{Line, node_head, push_number, tree_head};
-use crate::quoted::write_quoted;
+use crate::quoted::{plain_len, write_quoted};
 use crate::telling::put;
 use arrayvec::ArrayString;
 use prof_io::{OutFault, Sink};
@@ -45,15 +46,42 @@ fn unit_text(unit: Unit) -> &'static str
     }
 }
 
-/// Writes a node's line.
+/// A node's line as one text, where its name is short and each of its bytes stands for itself.
+fn short_line(node: Node, name: &str) -> Option<Line>
+    ensures { IfSome result (λ line. line.bytes ≡ node_head node ++ (quoted name.now ++ codes "\n")) }
+{
+    let mut line = node_head(node);
+    let room = line.remaining_capacity();
+    if name.len() + 3 > room || plain_len(name.as_bytes()) < name.len() {
+        return None;
+    }
+    line.push_str("\"");
+    line.push_str(name);
+    line.push_str("\"\n");
+    Some(line)
+}
+
+/// Writes a node's line in parts.
+fn write_long_line<S: Sink>(out: &mut S, node: Node, name: &str) -> Result<(), OutFault>
+    ensures { Writes (S.written out.old) (S.written out.new) (S.room out.old) (S.room out.new) (S.faults out.old) (S.faults out.new)
+        result (node_head node ++ (quoted name.now ++ codes "\n")) }
+{
+    put(out, node_head(node).as_str().as_bytes())?;
+    write_quoted(out, name)?;
+    put(out, b"\n")
+}
+
+/// Writes a node's line, in one piece where it can be.
 fn write_node<S: Sink>(out: &mut S, thread: &Thread, node: Node) -> Result<(), OutFault>
     requires { node.func < length thread.now.shared.funcs + length thread.now.shared.resources }
     ensures { Writes (S.written out.old) (S.written out.new) (S.room out.old) (S.room out.new) (S.faults out.old) (S.faults out.new)
         result (node_line thread.now.shared node) }
 {
-    put(out, node_head(node).as_str().as_bytes())?;
-    write_quoted(out, thread.func_name(node.func))?;
-    put(out, b"\n")
+    let name = thread.func_name(node.func);
+    match short_line(node, name) {
+        Some(line) => put(out, line.as_str().as_bytes()),
+        None => write_long_line(out, node, name),
+    }
 }
 
 /// Writes the lines of nodes.

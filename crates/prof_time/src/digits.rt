@@ -69,8 +69,23 @@ pub(crate) fn are_zeros(digits: &[u8]) -> bool
     digits.iter().all(|digit| *digit == b'0')
 }
 
-/// The number that `front` and then the digits write, at most `u128::MAX`.
-pub(crate) fn value_behind(front: u128, digits: &[u8]) -> u128
+/// How many digits are few: the number that they write has 64 bits.
+const FEW: usize = 17;
+
+/// The number that a few digits write.
+fn few_value(digits: &[u8]) -> u64
+    requires { length digits.now ≤ FEW }
+    ensures { result ≡ fold (λ n d. 10 * n + (d - 48)) 0 digits.now }
+{
+    let mut value = 0u64;
+    for digit in digits {
+        value = 10 * value + u64::from(digit.saturating_sub(b'0'));
+    }
+    value
+}
+
+/// The number that `front` and then many digits write, at most `u128::MAX`.
+fn many_behind(front: u128, digits: &[u8]) -> u128
     ensures { result ≡ min (fold (λ n d. 10 * n + (d - 48)) front digits.now) (2 ^ 128 - 1) }
 {
     let mut value = front;
@@ -81,8 +96,41 @@ pub(crate) fn value_behind(front: u128, digits: &[u8]) -> u128
     value
 }
 
+/// The number that `front` and then the digits write, at most `u128::MAX`.
+pub(crate) fn value_behind(front: u128, digits: &[u8]) -> u128
+    ensures { result ≡ min (fold (λ n d. 10 * n + (d - 48)) front digits.now) (2 ^ 128 - 1) }
+{
+    if digits.is_empty() {
+        return front;
+    }
+    if digits.len() > FEW {
+        return many_behind(front, digits);
+    }
+    let value = u128::from(few_value(digits));
+    if front == 0 {
+        return value;
+    }
+    times_ten_to(front, digits.len() as u128).saturating_add(value)
+}
+
+/// The greatest power of ten that has 64 bits.
+const MOST_TENS: u128 = 19;
+
 /// The number times ten to the power, at most `u128::MAX`.
 pub(crate) fn times_ten_to(number: u128, power: u128) -> u128
+    ensures { result ≡ min (number * 10 ^ power) (2 ^ 128 - 1) }
+{
+    if power == 0 {
+        return number;
+    }
+    if power > MOST_TENS || number > u128::from(u64::MAX) {
+        return times_great_power(number, power);
+    }
+    number * u128::from(10u64.pow(power as u32))
+}
+
+/// The same for powers of any size.
+fn times_great_power(number: u128, power: u128) -> u128
     ensures { result ≡ min (number * 10 ^ power) (2 ^ 128 - 1) }
 {
     // From the 39th power of ten on no product but 0 fits.

@@ -12,3 +12,8 @@ pub mod Balance
 pub mod Counting
 pub mod Known
 pub mod Adding
+pub mod Alike
+pub mod Masses
+pub mod Lifting
+pub mod Sampled
+pub mod RowByRow

@@ -54,18 +54,18 @@ IsTable-set ks rows look r b lt p f d t =
 Owns-set : (xs : List Weighed) (ks : List (List ℕ)) (rows : List Branch) (r : ℕ) (b : Branch) → r < length rows → b.own ≡ (branch rows r).own → Owns xs ks rows → Owns xs ks (set rows r b)
 Owns-set xs ks rows r b lt e o q h = at_set (λ (b : Branch). b.own) rows r b lt e q ∙ o q (subst (λ n. q < n) (length-set rows r b) h)
 
--- while a path is walked, after the steps x, at a row
-pub record Walk (xs : List Weighed) (w : ℤ) (x : List Step) (ks : List (List ℕ)) (rows : List Branch) (look : ℕ × ℕ → Option ℕ) (at : Option ℕ) : Type 0 where
+-- while a path is walked, after the steps x, at a row, where the self weights are those of `os`
+pub record Walk (os xs : List Weighed) (w : ℤ) (x : List Step) (ks : List (List ℕ)) (rows : List Branch) (look : ℕ × ℕ → Option ℕ) (at : Option ℕ) : Type 0 where
   pub table : IsTable ks rows look
   pub adds : Adds (xs ++ record { steps = x; weight = w } ∷ []) ks rows
-  pub owns : Owns xs ks rows
+  pub owns : Owns os ks rows
   pub place : key_above ks at ≡ funcs x
   pub at_in : (p : ℕ) → at ≡ Some p → p < length rows
 
 -- the rows once a child is there, and before its row takes the step
-pub record AtChild (xs : List Weighed) (w : ℤ) (x : List Step) (s : Step) (ks : List (List ℕ)) (rows : List Branch) (look : ℕ × ℕ → Option ℕ) (r : ℕ) : Type 0 where
+pub record AtChild (os xs : List Weighed) (w : ℤ) (x : List Step) (s : Step) (ks : List (List ℕ)) (rows : List Branch) (look : ℕ × ℕ → Option ℕ) (r : ℕ) : Type 0 where
   pub table : IsTable ks rows look
-  pub owns : Owns xs ks rows
+  pub owns : Owns os ks rows
   pub ready : Ready xs w x s ks rows r
 
 module _ (xs : List Weighed) (w : ℤ) (x : List Step) (s : Step) where
@@ -106,8 +106,8 @@ module _ (xs : List Weighed) (w : ℤ) (x : List Step) (s : Step) where
       absent h = let o = a.whole (here xs w x s) (snoc-not-nil (funcs x) s.func) (HasPrefix-left xs (t0 xs w x s) (here xs w x s) h) in none o.0 o.1 o.2
 
   -- a child stood, or is added
-  pub at_child : (ks : List (List ℕ)) (rows rows' : List Branch) (index index' : Index) (o : Option ℕ) (depth r : ℕ) → depth ≡ length x → IsChild rows index rows' index' o depth s r → Walk xs w x ks rows (get pair_cmp index) o → (ks' : List (List ℕ)) × AtChild xs w x s ks' rows' (get pair_cmp index') r
-  at_child ks rows rows' index index' o depth r deep child k = go (get pair_cmp index (link o, s.func)) refl child
+  pub at_child : (os : List Weighed) → ((p : List ℕ) → HasPrefix os p → HasPrefix (xs ++ t0 xs w x s ∷ []) p) → (ks : List (List ℕ)) (rows rows' : List Branch) (index index' : Index) (o : Option ℕ) (depth r : ℕ) → depth ≡ length x → IsChild rows index rows' index' o depth s r → Walk os xs w x ks rows (get pair_cmp index) o → (ks' : List (List ℕ)) × AtChild os xs w x s ks' rows' (get pair_cmp index') r × ((q : ℕ) → q < length rows → (key ks' q ≡ key ks q) × (q < length rows'))
+  at_child os within ks rows rows' index index' o depth r deep child k = go (get pair_cmp index (link o, s.func)) refl child
     where
       b : Branch
       b = record { parent = o; depth = depth; func = s.func; total = pos 0; own = pos 0; category = Some s.category }
@@ -115,48 +115,81 @@ module _ (xs : List Weighed) (w : ℤ) (x : List Step) (s : Step) where
       go : (m : Option ℕ) → get pair_cmp index (link o, s.func) ≡ m
           → MatchOption m ((r ≡ length rows) × (rows' ≡ rows ++ record { parent = o; depth = depth; func = s.func; total = pos 0; own = pos 0; category = Some s.category } ∷ []) × ((q : ℕ × ℕ) → get pair_cmp index' q ≡ cond (is_eq (pair_cmp (link o, s.func) q)) (Some r) (get pair_cmp index q)))
           (λ found. (r ≡ found) × (rows' ≡ rows) × ((q : ℕ × ℕ) → get pair_cmp index' q ≡ get pair_cmp index q))
-          → (ks' : List (List ℕ)) × AtChild xs w x s ks' rows' (get pair_cmp index') r
+          → (ks' : List (List ℕ)) × AtChild os xs w x s ks' rows' (get pair_cmp index') r × ((q : ℕ) → q < length rows → (key ks' q ≡ key ks q) × (q < length rows'))
       go (Some found) e h =
           let w' = k.table.finds o s.func found e in
           let key_is : key ks found ≡ here xs w x s = k.table.keys found w'.0 ∙ ap (λ m. key_above ks m ++ (branch rows found).func ∷ []) w'.1 ∙ ap (λ f. key_above ks o ++ f ∷ []) w'.2 ∙ ap (λ z. z ++ s.func ∷ []) k.place in (
             ks,
-            subst (λ r. AtChild xs w x s ks rows' (get pair_cmp index') r) (sym h.0) (subst (λ rows'. AtChild xs w x s ks rows' (get pair_cmp index') found) (sym h.1) (record {
+            subst (λ r. AtChild os xs w x s ks rows' (get pair_cmp index') r) (sym h.0) (subst (λ rows'. AtChild os xs w x s ks rows' (get pair_cmp index') found) (sym h.1) (record {
               table = IsTable-alike ks rows rows (get pair_cmp index) (get pair_cmp index') refl (λ q _. (refl, refl, refl)) h.2 k.table;
               owns = k.owns;
               ready = Ready-old xs w x s ks rows k.table.apart found w'.0 key_is k.adds;
             })),
+            λ q lt. (refl, subst (λ z. q < length z) (sym h.1) lt),
           )
       go None e h =
           let look' : (q : ℕ × ℕ) → get pair_cmp index' q ≡ cond (is_eq (pair_cmp (link o, s.func) q)) (Some (length rows)) (get pair_cmp index q) = λ q. h.2 q ∙ ap (λ r. cond (is_eq (pair_cmp (link o, s.func) q)) (Some r) (get pair_cmp index q)) h.0 in
           let same : key_above ks o ++ s.func ∷ [] ≡ here xs w x s = ap (λ z. z ++ s.func ∷ []) k.place in
           let none : (q : ℕ) → q < length rows → key ks q ≢ here xs w x s = λ q lt eq. no_key ks rows (get pair_cmp index) (get pair_cmp index') o s.func b k.table k.at_in e refl refl (deep ∙ sym (length-funcs x) ∙ ap length (sym k.place)) look' q lt (eq ∙ sym same) in (
             ks ++ here xs w x s ∷ [],
-            subst (λ r. AtChild xs w x s (ks ++ here xs w x s ∷ []) rows' (get pair_cmp index') r) (sym h.0) (subst (λ rows'. AtChild xs w x s (ks ++ here xs w x s ∷ []) rows' (get pair_cmp index') (length rows)) (sym h.1) (record {
+            subst (λ r. AtChild os xs w x s (ks ++ here xs w x s ∷ []) rows' (get pair_cmp index') r) (sym h.0) (subst (λ rows'. AtChild os xs w x s (ks ++ here xs w x s ∷ []) rows' (get pair_cmp index') (length rows)) (sym h.1) (record {
               table = subst (λ z. IsTable (ks ++ z ∷ []) (rows ++ b ∷ []) (get pair_cmp index')) same (IsTable-more ks rows (get pair_cmp index) (get pair_cmp index') o s.func b k.table k.at_in e refl refl (deep ∙ sym (length-funcs x) ∙ ap length (sym k.place)) look');
               owns = owns-new none;
               ready = Ready-new ks rows b k.table.len none refl refl k.adds;
             })),
+            λ q lt. (key_left ks (here xs w x s) q (subst (λ n. q < n) (sym k.table.len) lt), subst (λ z. q < length z) (sym h.1) (omega (arith, lt, length-snoc rows b))),
           )
         where
-          owns-new : ((q : ℕ) → q < length rows → key ks q ≢ here xs w x s) → Owns xs (ks ++ here xs w x s ∷ []) (rows ++ b ∷ [])
+          owns-new : ((q : ℕ) → q < length rows → key ks q ≢ here xs w x s) → Owns os (ks ++ here xs w x s ∷ []) (rows ++ b ∷ [])
           owns-new none q lt = elim (in_or_last q (length rows) (subst (λ n. q < n) (length-snoc rows b) lt)) [
-            | inl l ↦ ap (λ (b : Branch). b.own) (at_left rows b q l) ∙ k.owns q l ∙ ap (own_at xs) (sym (key_left ks (here xs w x s) q (subst (λ n. q < n) (sym k.table.len) l)))
-            | inr e ↦ subst (λ q. (branch (rows ++ b ∷ []) q).own ≡ own_at xs (key (ks ++ here xs w x s ∷ []) q)) (sym e)
-                (ap (λ (b : Branch). b.own) (at_last rows b) ∙ sym (ap total (none_ending xs (here xs w x s) (λ h. (let o = k.adds.whole (here xs w x s) (snoc-not-nil (funcs x) s.func) (HasPrefix-left xs (t0 xs w x s) (here xs w x s) h) in none o.0 o.1 o.2))))
-                ∙ ap (own_at xs) (sym (ap (key (ks ++ here xs w x s ∷ [])) (sym k.table.len) ∙ key_last ks (here xs w x s))))
+            | inl l ↦ ap (λ (b : Branch). b.own) (at_left rows b q l) ∙ k.owns q l ∙ ap (own_at os) (sym (key_left ks (here xs w x s) q (subst (λ n. q < n) (sym k.table.len) l)))
+            | inr e ↦ subst (λ q. (branch (rows ++ b ∷ []) q).own ≡ own_at os (key (ks ++ here xs w x s ∷ []) q)) (sym e)
+                (ap (λ (b : Branch). b.own) (at_last rows b) ∙ sym (ap total (none_ending os (here xs w x s) (λ h. (let o = k.adds.whole (here xs w x s) (snoc-not-nil (funcs x) s.func) (within (here xs w x s) h) in none o.0 o.1 o.2))))
+                ∙ ap (own_at os) (sym (ap (key (ks ++ here xs w x s ∷ [])) (sym k.table.len) ∙ key_last ks (here xs w x s))))
           ]
 
   -- and its row takes the step
-  pub Walk-more : (ks : List (List ℕ)) (rows rows' : List Branch) (look : ℕ × ℕ → Option ℕ) (r : ℕ) → rows' ≡ set rows r (stepped (branch rows r) s w) → AtChild xs w x s ks rows look r → Walk xs w (x ++ s ∷ []) ks rows' look (Some r)
-  Walk-more ks rows rows' look r is_set a =
+  pub Walk-more : (os : List Weighed) (ks : List (List ℕ)) (rows rows' : List Branch) (look : ℕ × ℕ → Option ℕ) (r : ℕ) → rows' ≡ set rows r (stepped (branch rows r) s w) → AtChild os xs w x s ks rows look r → Walk os xs w (x ++ s ∷ []) ks rows' look (Some r)
+  Walk-more os ks rows rows' look r is_set a =
       let b = stepped (branch rows r) s w in
       record {
         table = subst (λ z. IsTable ks z look) (sym is_set) (IsTable-set ks rows look r b a.ready.in_rows refl refl refl a.table);
         adds = Adds-step xs w x s ks rows a.table.apart rows' r b a.ready is_set refl refl (λ q h. long (key ks q) (key-long ks rows look a.table q h));
-        owns = subst (Owns xs ks) (sym is_set) (Owns-set xs ks rows r b a.ready.in_rows refl a.owns);
+        owns = subst (Owns os ks) (sym is_set) (Owns-set os ks rows r b a.ready.in_rows refl a.owns);
         place = a.ready.key_is ∙ sym (list1 xs w x s);
         at_in = λ p e. (let q : r ≡ p = cc in subst (λ p. p < length rows') q (subst (λ z. r < length z) (sym is_set) (subst (λ n. r < n) (sym (length-set rows r b)) a.ready.in_rows)));
       }
+
+-- one more path that ends at a row, which takes its weight as self weight
+module _ (ks : List (List ℕ)) (rows : List Branch) (r : ℕ) (w : ℤ) (lt : r < length rows) where
+  abbrev ended_row : Branch
+  ended_row = ended (branch rows r) w
+
+  inside_end : (q : ℕ) → q < length (set rows r ended_row) → q < length rows
+  inside_end q h = subst (λ n. q < n) (length-set rows r ended_row) h
+
+  pub Table-end : (look : ℕ × ℕ → Option ℕ) → IsTable ks rows look → IsTable ks (set rows r ended_row) look
+  Table-end look t = IsTable-set ks rows look r ended_row lt refl refl refl t
+
+  pub Adds-end : (xs : List Weighed) → Adds xs ks rows → Adds xs ks (set rows r ended_row)
+  Adds-end xs a = record {
+    totals = λ q h. at_set (λ (b : Branch). b.total) rows r ended_row lt refl q ∙ a.totals q (inside_end q h);
+    categories = λ q h. at_set (λ (b : Branch). b.category) rows r ended_row lt refl q ∙ a.categories q (inside_end q h);
+    in_paths = λ q h. a.in_paths q (inside_end q h);
+    whole = λ p n h. (let o = a.whole p n h in (o.0, subst (λ n. o.0 < n) (sym (length-set rows r ended_row)) o.1, o.2));
+  }
+
+  pub Owns-end : (xs : List Weighed) (x : List Step) → ((q s : ℕ) → q < length rows → s < length rows → key ks q ≡ key ks s → q ≡ s) → key ks r ≡ funcs x
+      → Owns xs ks rows → Owns (xs ++ record { steps = x; weight = w } ∷ []) ks (set rows r ended_row)
+  Owns-end xs x apart place o = λ q h. elim (eqb q r) as (λ e. eqb q r ≡ e → (branch (set rows r ended_row) q).own ≡ own_at (xs ++ record { steps = x; weight = w } ∷ []) (key ks q)) [
+    | true ↦ λ e. subst (λ q. (branch (set rows r ended_row) q).own ≡ own_at (xs ++ record { steps = x; weight = w } ∷ []) (key ks q)) (sym (same_number q r e))
+        (ap (λ (b : Branch). b.own) (get_or-set_same rows r ended_row no_branch lt) ∙ ap (λ z. z +ℤ w) (o r lt) ∙ sym (own_at-yes xs (record { steps = x; weight = w }) (key ks r) (ap (λ p. pointwise nat_eq p (funcs x)) place ∙ same-is (funcs x))))
+    | false ↦ λ e. ap (λ (b : Branch). b.own) (get_or-set_other rows r q ended_row no_branch (λ s. false≢true (sym e ∙ number_same q r s))) ∙ o q (inside_end q h)
+        ∙ sym (own_at-no xs (record { steps = x; weight = w }) (key ks q) (elim (pointwise nat_eq (key ks q) (funcs x)) as (λ v. pointwise nat_eq (key ks q) (funcs x) ≡ v → v ≡ false) [
+          | true ↦ λ v. absurd (false≢true (sym e ∙ number_same q r (apart q r (inside_end q h) lt (sym (is-same (funcs x) (key ks q) v) ∙ sym place))))
+          | false ↦ λ v. refl
+        ] refl))
+  ] refl
 
 -- before the first step
 module _ (xs : List Weighed) (w : ℤ) (ks : List (List ℕ)) (rows : List Branch) (look : ℕ × ℕ → Option ℕ) where
@@ -167,7 +200,7 @@ module _ (xs : List Weighed) (w : ℤ) (ks : List (List ℕ)) (rows : List Branc
   no_start [] n = absurd (n refl)
   no_start (a ∷ p) n = refl
 
-  pub Walk-none : IsGrown xs ks rows look → Walk xs w [] ks rows look None
+  pub Walk-none : IsGrown xs ks rows look → Walk xs xs w [] ks rows look None
   Walk-none g = record {
     table = g.table;
     adds = record {
@@ -182,7 +215,7 @@ module _ (xs : List Weighed) (w : ℤ) (ks : List (List ℕ)) (rows : List Branc
   }
 
   -- after the last step, where there was none
-  pub Grown-none : (x : List Step) → Walk xs w x ks rows look None → IsGrown (xs ++ record { steps = x; weight = w } ∷ []) ks rows look
+  pub Grown-none : (x : List Step) → Walk xs xs w x ks rows look None → IsGrown (xs ++ record { steps = x; weight = w } ∷ []) ks rows look
   Grown-none x k = record {
     table = k.table;
     adds = k.adds;
@@ -195,31 +228,14 @@ module _ (xs : List Weighed) (w : ℤ) (ks : List (List ℕ)) (rows : List Branc
       not_is (a ∷ p) (b ∷ l) e n = cc
 
   -- after the last step
-  pub Grown-end : (x : List Step) (rows' : List Branch) (r : ℕ) → rows' ≡ set rows r (ended (branch rows r) w) → Walk xs w x ks rows look (Some r) → IsGrown (xs ++ record { steps = x; weight = w } ∷ []) ks rows' look
+  pub Grown-end : (x : List Step) (rows' : List Branch) (r : ℕ) → rows' ≡ set rows r (ended (branch rows r) w) → Walk xs xs w x ks rows look (Some r) → IsGrown (xs ++ record { steps = x; weight = w } ∷ []) ks rows' look
   Grown-end x rows' r is_set k =
-      let b = ended (branch rows r) w in
       let lt : r < length rows = k.at_in r refl in
       subst (λ z. IsGrown (xs ++ record { steps = x; weight = w } ∷ []) ks z look) (sym is_set) (record {
-        table = IsTable-set ks rows look r b lt refl refl refl k.table;
-        adds = record {
-          totals = λ q h. at_set (λ (b : Branch). b.total) rows r b lt refl q ∙ k.adds.totals q (inside b q h);
-          categories = λ q h. at_set (λ (b : Branch). b.category) rows r b lt refl q ∙ k.adds.categories q (inside b q h);
-          in_paths = λ q h. k.adds.in_paths q (inside b q h);
-          whole = λ p n h. (let o = k.adds.whole p n h in (o.0, subst (λ n. o.0 < n) (sym (length-set rows r b)) o.1, o.2));
-        };
-        owns = λ q h. elim (eqb q r) as (λ e. eqb q r ≡ e → (branch (set rows r b) q).own ≡ own_at (xs ++ record { steps = x; weight = w } ∷ []) (key ks q)) [
-          | true ↦ λ e. subst (λ q. (branch (set rows r b) q).own ≡ own_at (xs ++ record { steps = x; weight = w } ∷ []) (key ks q)) (sym (same_number q r e))
-              (ap (λ (b : Branch). b.own) (get_or-set_same rows r b no_branch lt) ∙ ap (λ z. z +ℤ w) (k.owns r lt) ∙ sym (own_at-yes xs (record { steps = x; weight = w }) (key ks r) (ap (λ p. pointwise nat_eq p (funcs x)) k.place ∙ same-is (funcs x))))
-          | false ↦ λ e. ap (λ (b : Branch). b.own) (get_or-set_other rows r q b no_branch (λ s. false≢true (sym e ∙ number_same q r s))) ∙ k.owns q (inside b q h)
-              ∙ sym (own_at-no xs (record { steps = x; weight = w }) (key ks q) (elim (pointwise nat_eq (key ks q) (funcs x)) as (λ v. pointwise nat_eq (key ks q) (funcs x) ≡ v → v ≡ false) [
-                | true ↦ λ v. absurd (false≢true (sym e ∙ number_same q r (k.table.apart q r (inside b q h) lt (sym (is-same (funcs x) (key ks q) v) ∙ sym k.place))))
-                | false ↦ λ v. refl
-              ] refl))
-        ] refl;
+        table = Table-end ks rows r w lt look k.table;
+        adds = Adds-end ks rows r w lt (xs ++ record { steps = x; weight = w } ∷ []) k.adds;
+        owns = Owns-end ks rows r w lt xs x k.table.apart k.place k.owns;
       })
-    where
-      inside : (b : Branch) (q : ℕ) → q < length (set rows r b) → q < length rows
-      inside b q h = subst (λ n. q < n) (length-set rows r b) h
 
 -- sums of part of a list of weights of 64 bits
 pub within : (test : Weighed → Bool) (xs : List Weighed) → EachOf IsSmall xs → (neg_ℤ (pos (length xs * 9223372036854775808)) ≤ℤ total (filter test xs)) × (total (filter test xs) ≤ℤ pos (length xs * 9223372036854775808))

@@ -5,3 +5,5 @@ pub mod Forest
 pub mod Ranks
 pub mod Growing
 pub mod Building
+pub mod Weighing
+pub mod Sprouting

@@ -35,8 +35,8 @@ fn step_from(path: &[Step], from: End, distance: usize) -> Step
     }
 }
 
-// The row of a step below a row, which is added where it isn't there.
-fn child(
+/// The row of a step below a row, which is added where it isn't there.
+pub fn child(
     rows: &mut Vec<Branch>,
     index: &mut BTreeMap<(usize, u32), usize>,
     parent: Option<usize>,
@@ -63,17 +63,36 @@ fn child(
     Ok(row)
 }
 
+/// Adds a weight and the category of a step to a row.
+pub fn add_total(rows: &mut Vec<Branch>, row: usize, step: Step, weight: i128)
+    requires row { row < length rows.old.items }
+    requires fits { FitsSigned w128 ((branch rows.old.items row).total +ℤ weight) }
+    ensures { rows.new.items ≡ slice_set rows.old.items row (stepped (branch rows.old.items row) step weight) }
+{
+    let branch = &mut rows[row];
+    branch.total += weight;
+    if branch.category != Some(step.category) {
+        branch.category = None;
+    }
+}
+
+/// Adds a weight to the self weight of a row.
+pub fn add_own(rows: &mut Vec<Branch>, row: usize, weight: i128)
+    requires row { row < length rows.old.items }
+    requires fits { FitsSigned w128 ((branch rows.old.items row).own +ℤ weight) }
+    ensures { rows.new.items ≡ slice_set rows.old.items row (ended (branch rows.old.items row) weight) }
+{
+    let branch = &mut rows[row];
+    branch.own += weight;
+}
+
 // Adds a path's weight and its step's category to a row.
 fn add_step(rows: &mut Vec<Branch>, row: usize, step: Step, weight: i64)
     requires row { row < length rows.old.items }
     requires fits { FitsSigned w128 ((branch rows.old.items row).total +ℤ weight) }
     ensures { rows.new.items ≡ slice_set rows.old.items row (stepped (branch rows.old.items row) step weight) }
 {
-    let branch = &mut rows[row];
-    branch.total += i128::from(weight);
-    if branch.category != Some(step.category) {
-        branch.category = None;
-    }
+    add_total(rows, row, step, i128::from(weight));
 }
 
 // Adds a path's weight to the row that it ends at.
@@ -82,8 +101,7 @@ fn add_end(rows: &mut Vec<Branch>, row: usize, weight: i64)
     requires fits { FitsSigned w128 ((branch rows.old.items row).own +ℤ weight) }
     ensures { rows.new.items ≡ slice_set rows.old.items row (ended (branch rows.old.items row) weight) }
 {
-    let branch = &mut rows[row];
-    branch.own += i128::from(weight);
+    add_own(rows, row, i128::from(weight));
 }
 
 /// Walks one path into the rows, from an end on.

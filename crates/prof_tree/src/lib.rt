@@ -8,8 +8,11 @@ mod finishing;
 mod growing;
 mod listing;
 mod node;
+mod own;
+mod sprouting;
 mod tree;
+mod weighing;
 
-pub use builder::TreeBuilder;
 pub use node::{InvertRefusal, Node, Tree};
+pub use own::own_tree;
 pub use tree::{of_paths, of_reversed};

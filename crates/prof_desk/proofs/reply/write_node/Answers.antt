@@ -1,24 +1,15 @@
 use Rattle.std.proofs.Common.{◌++◌, ◌∙◌, ap, codes}
 use Rattle.prof_desk.specs.Lines.{node_head}
 use Rattle.prof_desk.specs.Quoted.{quoted}
-use Rattle.prof_desk.proofs.Parts.{writes_on, writes_not, writes_same}
+use Rattle.prof_desk.proofs.Parts.{writes_same}
 use Rattle.prof_desk.proofs.reply.write_node.Goals as goal
 
-pub returns-in_err-put : goal.returns-in_err-put
-returns-in_err-put g c =
-    writes_not _ _ _ _ _ _ _ _ _ _ c.from_residual.ensures.0
-    (writes_same _ _ _ _ _ _ _ _ _ c.in_err-put.ensures (c.as_bytes.ensures.value ∙ c.as_str.ensures.value ∙ c.node_head.ensures))
+pub returns-in-Some : goal.returns-in-Some
+returns-in-Some g c =
+    writes_same _ _ _ _ _ _ _ _ _ c.put.ensures
+    (c.as_bytes.ensures.value ∙ c.as_str.ensures.value ∙ c.in-Some.ensures ∙ ap (λ n. node_head c.args.node ++ (quoted n ++ codes "\n")) c.func_name-name.ensures)
 
-pub returns-in_err-write_quoted : goal.returns-in_err-write_quoted
-returns-in_err-write_quoted g c =
-    writes_same _ _ _ _ _ _ _ _ _
-    (writes_on _ _ _ _ _ _ _ _ _ _ _ _ _ c.in_ok-put.ensures (writes_not _ _ _ _ _ _ _ _ _ _ c.from_residual-in_err-write_quoted.ensures.0 c.in_err-write_quoted.ensures))
-    (ap (λ l. l ++ (quoted c.func_name.result.now ++ codes "\n")) (c.as_bytes.ensures.value ∙ c.as_str.ensures.value ∙ c.node_head.ensures)
-    ∙ ap (λ n. node_head c.args.node ++ (quoted n ++ codes "\n")) c.func_name.ensures)
-
-pub returns : goal.returns
-returns g c =
-    writes_same _ _ _ _ _ _ _ _ _
-    (writes_on _ _ _ _ _ _ _ _ _ _ _ _ _ c.in_ok-put.ensures (writes_on _ _ _ _ _ _ _ _ _ _ _ _ _ c.in_ok-write_quoted.ensures c.put-2.ensures))
-    (ap (λ l. l ++ (quoted c.func_name.result.now ++ codes "\n")) (c.as_bytes.ensures.value ∙ c.as_str.ensures.value ∙ c.node_head.ensures)
-    ∙ ap (λ n. node_head c.args.node ++ (quoted n ++ codes "\n")) c.func_name.ensures)
+pub returns-in-None : goal.returns-in-None
+returns-in-None g c =
+    writes_same _ _ _ _ _ _ _ _ _ c.write_long_line.ensures
+    (ap (λ n. node_head c.args.node ++ (quoted n ++ codes "\n")) c.func_name-name.ensures)

@@ -6,4 +6,4 @@ use Rattle.prof_tree.proofs.Turns.{Walk}
 use Rattle.prof_tree.proofs.growing.walk.Given as goal
 
 abbrev pub invariant-loop-depth : goal.invariant-loop-depth
-invariant-loop-depth l = (xs : List Weighed) (ks : List (List ℕ)) → IsGrown xs ks l.fn.rows.items (get pair_cmp l.fn.index) → (ks' : List (List ℕ)) × Walk xs l.weight (take l.depth (steps_from l.from l.path)) ks' l.rows.items (get pair_cmp l.index) l.at
+invariant-loop-depth l = (xs : List Weighed) (ks : List (List ℕ)) → IsGrown xs ks l.fn.rows.items (get pair_cmp l.fn.index) → (ks' : List (List ℕ)) × Walk xs xs l.weight (take l.depth (steps_from l.from l.path)) ks' l.rows.items (get pair_cmp l.index) l.at

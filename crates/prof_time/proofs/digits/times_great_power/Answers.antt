@@ -1,6 +1,6 @@
 use Rattle.std.proofs.Common.{◌*◌, ◌-◌, ◌^◌, min, ap, ◌∙◌}
 use Rattle.prof_time.proofs.Values.{times_min}
-use Rattle.prof_time.proofs.digits.times_ten_to.Goals as goal
+use Rattle.prof_time.proofs.digits.times_great_power.Goals as goal
 
 pub returns : goal.returns
 returns c =

@@ -1,0 +1,13 @@
+use Rattle.std.proofs.Common.{◌+◌, ◌-◌, ◌*◌, ◌^◌, ◌≤◌, arith}
+use Rattle.std.proofs.Math.Nat.{pow-le-pow_right}
+use Rattle.prof_time.proofs.digits.few_value.Goals as goal
+
+pub overflow_mul-value : goal.overflow_mul-value
+overflow_mul-value c =
+    let tens : 10 ^ c.loop-digit.digit-index ≤ 10 ^ 16 = pow-le-pow_right {n = 10} (omega arith) {i = c.loop-digit.digit-index} {j = 16} (omega arith) in
+    omega arith
+
+pub overflow_add-value : goal.overflow_add-value
+overflow_add-value c =
+    let tens : 10 ^ c.loop-digit.digit-index ≤ 10 ^ 16 = pow-le-pow_right {n = 10} (omega arith) {i = c.loop-digit.digit-index} {j = 16} (omega arith) in
+    omega arith

@@ -1,0 +1,119 @@
+// What the samples of a thread weigh, added up by the stack rows that they stand on.
+ghost use Rattle.std.specs.Prelude.{◌≡◌, ◌∷◌, ◌++◌, [], ◌≤◌, ◌<◌, ◌*◌, ◌+◌, ◌+ℤ◌, ℕ, List, length, take, replicate, None, IfOk, IfSome, FitsSigned};
+ghost use Rattle.std.specs.Int.{w128};
+ghost use Rattle.prof_tables.specs.declared.rows.StackRow.{StackRow};
+ghost use Rattle.prof_tables.specs.Paths.{path, PrefixesBelow};
+ghost use Rattle.prof_tree.specs.Weighing.{Weighs, own_paths, weight_at, with_more, lifted, lifted_last, mass};
+ghost use Rattle.prof_tree.specs.Nodes.{Weighed};
+
+use crate::growing::plus;
+use prof_tables::{SampleRow, StackRow, Thread};
+use std::alloc::{AllocError, Global};
+
+/// The weights of samples: by the stack rows that they stand on, all together, and of those without a stack. A row on
+/// which no sample stands has no weight.
+#[derive(Drop)]
+pub struct SampleWeights {
+    pub by_row: Vec<Option<i128>>,
+    pub selected: i128,
+    pub dropped: i128,
+}
+
+/// Adds to the weight of a row.
+fn add_weight(weights: &mut [Option<i128>], row: usize, more: i128)
+    requires row { row < length weights.old }
+    requires fits { FitsSigned w128 (weight_at weights.old row +ℤ more) }
+    ensures { weights.new ≡ with_more weights.old row more }
+{
+    let weight = weights[row].unwrap_or(0) + more;
+    weights[row] = Some(weight);
+}
+
+fn no_weights(alloc: Global, rows: usize) -> Result<Vec<Option<i128>>, AllocError>
+    ensures { IfOk result (λ weights. weights.items ≡ replicate rows None) }
+{
+    vec![in alloc; None; rows]
+}
+
+impl SampleWeights {
+    /// No sample was there yet.
+    fn none(alloc: Global, rows: usize) -> Result<Self, AllocError>
+        ensures { IfOk result (λ w. (stacks : List StackRow) → length stacks ≡ rows → Weighs stacks [] w) }
+    {
+        Ok(SampleWeights {
+            by_row: no_weights(alloc, rows)?,
+            selected: 0,
+            dropped: 0,
+        })
+    }
+
+    /// Adds a sample.
+    fn add(&mut self, sample: SampleRow)
+        requires held { (stacks : List StackRow) × (xs : List Weighed) × Weighs stacks xs self.old × (length xs < 8388608) }
+        requires row { IfSome sample.stack (λ row. row < length self.old.by_row.items) }
+        ensures { (stacks : List StackRow) (xs : List Weighed) → Weighs stacks xs self.old → length xs < 8388608
+            → Weighs stacks (xs ++ record { steps = path stacks sample.stack; weight = sample.weight } ∷ []) self.new }
+    {
+        self.selected = plus(self.selected, sample.weight);
+        match sample.stack {
+            None => self.dropped = plus(self.dropped, sample.weight),
+            Some(row) => add_weight(&mut self.by_row, row as usize, i128::from(sample.weight)),
+        }
+    }
+}
+
+/// The weights of a thread's samples.
+pub fn weights_of(alloc: Global, thread: &Thread) -> Result<SampleWeights, AllocError>
+    ensures weighs { IfOk result (λ w. Weighs thread.now.shared.stacks (own_paths thread.now) w) }
+    ensures light { IfOk result (λ w. mass w.by_row.items ≤ 8388608 * 9223372036854775808) }
+{
+    let mut weights = SampleWeights::none(alloc, thread.stacks().count() as usize)?;
+    for k in 0..thread.sample_count() {
+        weights.add(thread.sample(k));
+    }
+    Ok(weights)
+}
+
+/// Adds the weight of a row to that of its prefix, where there are both.
+fn lift(stacks: &[StackRow], weights: &mut [Option<i128>], row: usize)
+    requires row { row < length stacks.now }
+    requires lengths { length weights.old ≡ length stacks.now }
+    requires below { PrefixesBelow stacks.now }
+    requires light { mass (take (row + 1) weights.old) ≤ 8388608 * 9223372036854775808 }
+    ensures { weights.new ≡ lifted stacks.now weights.old row }
+{
+    let Some(weight) = weights[row] else {
+        return;
+    };
+    if let Some(prefix) = stacks[row].prefix {
+        add_weight(weights, prefix as usize, weight);
+    }
+}
+
+/// Adds the weight of each row to those that it stands on, the last row first.
+fn lift_all(stacks: &[StackRow], weights: &mut [Option<i128>])
+    requires lengths { length weights.old ≡ length stacks.now }
+    requires below { PrefixesBelow stacks.now }
+    requires light { mass weights.old ≤ 8388608 * 9223372036854775808 }
+    ensures { weights.new ≡ lifted_last stacks.now weights.old (length stacks.now) }
+{
+    for row in (0..stacks.len()).rev() {
+        lift(stacks, weights, row);
+    }
+}
+
+/// The weight of the samples that go through each row, where `own` has that of those that stand on it.
+pub fn through_rows(
+    alloc: Global,
+    stacks: &[StackRow],
+    own: &[Option<i128>],
+) -> Result<Vec<Option<i128>>, AllocError>
+    requires lengths { length own.now ≡ length stacks.now }
+    requires below { PrefixesBelow stacks.now }
+    requires light { mass own.now ≤ 8388608 * 9223372036854775808 }
+    ensures { IfOk result (λ through. through.items ≡ lifted_last stacks.now own.now (length stacks.now)) }
+{
+    let mut through = own.to_vec(alloc)?;
+    lift_all(stacks, &mut through);
+    Ok(through)
+}
