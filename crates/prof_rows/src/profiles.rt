@@ -28,6 +28,14 @@ pub const FRAME_OUT: &str =
 pub const PREFIX_SAME: &str =
     "{\"meta\":{\"preprocessedProfileVersion\":1},\"threads\":[{\"stringArray\":[\"A\"],\"funcTable\":{\"name\":[0]},\"frameTable\":{\"func\":[0]},\"stackTable\":{\"frame\":[0,0],\"prefix\":[null,1]},\"samples\":{\"stack\":[],\"time\":[]}}]}";
 
+/// Three functions, the steps of which are of three categories. Two of the functions have a resource.
+pub const Q: &str =
+    "{\"meta\":{\"preprocessedProfileVersion\":47,\"categories\":[{\"name\":\"Other\",\"color\":\"grey\"},{\"name\":\"Layout\",\"color\":\"blue\"},{\"name\":\"Graphics\",\"color\":\"green\"}]},\"libs\":[],\"threads\":[{\"name\":\"T\",\"stringArray\":[\"A\",\"B\",\"C\",\"app\"],\"resourceTable\":{\"name\":[3],\"length\":1},\"funcTable\":{\"name\":[0,1,2],\"isJS\":[false,false,false],\"relevantForJS\":[false,false,false],\"resource\":[-1,0,0],\"fileName\":[null,null,null],\"length\":3},\"frameTable\":{\"func\":[0,1,2],\"category\":[0,1,2],\"length\":3},\"stackTable\":{\"prefix\":[null,0,0],\"frame\":[0,1,2],\"length\":3},\"samples\":{\"stack\":[1,2,2],\"time\":[0,1,2],\"length\":3}}]}";
+
+/// A JavaScript function of a file, a function of a resource that it calls, and a function of another file.
+pub const NAMED: &str =
+    "{\"meta\":{\"preprocessedProfileVersion\":47},\"libs\":[],\"threads\":[{\"name\":\"T\",\"stringArray\":[\"Run\",\"lib.JS\",\"wait for it\",\"libXul\",\"poll\",\"src/Main Loop.cpp\"],\"resourceTable\":{\"name\":[3],\"length\":1},\"funcTable\":{\"name\":[0,2,4],\"isJS\":[true,false,false],\"relevantForJS\":[false,false,false],\"resource\":[-1,0,-1],\"fileName\":[1,null,5],\"length\":3},\"frameTable\":{\"func\":[0,1,2],\"category\":[null,null,null],\"length\":3},\"stackTable\":{\"prefix\":[null,0,null],\"frame\":[0,1,2],\"length\":3},\"samples\":{\"stack\":[0,1,1,2,null],\"time\":[0,1,2,3,4],\"length\":5}}]}";
+
 /// Two samples whose weights cancel each other.
 pub const BYTES: &str =
     "{\"meta\":{\"preprocessedProfileVersion\":1},\"threads\":[{\"stringArray\":[\"A\"],\"funcTable\":{\"name\":[0]},\"frameTable\":{\"func\":[0]},\"stackTable\":{\"frame\":[0],\"prefix\":[null]},\"samples\":{\"stack\":[0,0],\"time\":[0,1],\"weightType\":\"bytes\",\"weight\":[5,-5]}}]}";

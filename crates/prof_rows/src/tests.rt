@@ -3,11 +3,14 @@ ghost use Rattle.std.specs.Prelude.{◌≡◌, ◌<◌, ◌≤◌};
 
 use crate::profiles as of;
 use prof_desk::{Status, run};
-use prof_io::{MemFiles, MemSink, SteadyHall, SteadyKeeper, Steps, Text};
+use prof_io::{
+    Files, MemFiles, MemSink, OsFiles, OsSink, SteadyHall, SteadyKeeper, Steps, Text, copy_out,
+};
 use std::alloc::Global;
 use std::marker::Brand;
 use std::sync::ledger::{Blank, Ledger};
 use std::test::Fail;
+use std::{env, fs, process};
 
 /// How a run ended, and what it wrote and told.
 #[derive(Drop)]
@@ -31,10 +34,10 @@ const NOTHING: Failing = Failing {
     err: 0,
 };
 
-fn counted<L: Ledger>(
+fn counted<L: Ledger, F: Files>(
     alloc: Global,
     words: &[String],
-    files: &mut MemFiles,
+    files: &mut F,
     out: &mut MemSink,
     err: &mut MemSink,
     blank: Blank,
@@ -78,7 +81,14 @@ fn run_words(
     let mut files = MemFiles::new(shelf, piece, vec![in alloc; failing.files]?);
     let mut out = MemSink::new(alloc, 4096, 64, vec![in alloc; failing.out]?)?;
     let mut err = MemSink::new(alloc, 256, 64, vec![in alloc; failing.err]?)?;
-    let status = counted::<Brand>(alloc, &list, &mut files, &mut out, &mut err, Blank::new(1));
+    let status = counted::<Brand, MemFiles>(
+        alloc,
+        &list,
+        &mut files,
+        &mut out,
+        &mut err,
+        Blank::new(1),
+    );
     Ok(Ran { status, out, err })
 }
 
@@ -244,5 +254,30 @@ fn faults_are_told(rt: HostRuntime) -> Result<(), Fail> {
         assert!(rt; ran.out.bytes().len() < of::TREE.len());
         assert_eq!(rt; ran.status, Status::OutFault);
     }
+    Ok(())
+}
+
+#[test]
+fn the_tree_of_a_real_file(rt: HostRuntime) -> Result<(), Fail> {
+    let alloc = rt.alloc();
+    let folder = env::temp_dir(&rt)?;
+    let folder = folder.as_str();
+    let number = process::id(rt.process());
+    let name = format!(in alloc; "{folder}/profdesk-rows-{number}")?;
+    let mut file = OsSink::new(fs::create(&rt, name.as_str())?);
+    assert_eq!(rt; copy_out(&mut file, of::P.as_bytes()), Ok(()));
+
+    let mut words = Vec::new(alloc);
+    words.push(String::from_str(alloc, "tree")?)?;
+    words.push(String::from_str(alloc, name.as_str())?)?;
+    let mut files = OsFiles::new(&rt);
+    let mut out = MemSink::new(alloc, 4096, 64, Vec::new(alloc))?;
+    let mut err = MemSink::new(alloc, 256, 64, Vec::new(alloc))?;
+    let blank = Blank::new(1);
+    let status = counted::<Brand, _>(alloc, &words, &mut files, &mut out, &mut err, blank);
+    fs::remove_file(&rt, name.as_str())?;
+    assert_eq!(rt; err.bytes(), "".as_bytes());
+    assert_eq!(rt; out.bytes(), of::TREE.as_bytes());
+    assert_eq!(rt; status, Status::Done);
     Ok(())
 }
