@@ -12,3 +12,4 @@ pub mod Standing
 pub mod Fresh
 pub mod Skipping
 pub mod Passing
+pub mod Digits

@@ -32,14 +32,14 @@ gains_none {k} = record { is = with_nil k }
 pub gains_on : {k l m : Kept} {x y : List ℕ} → Gains k x l → Gains l y m → Gains k (x ++ y) m
 gains_on {k} {l} {m} {x} {y} e f = record { is = f.is ∙ ap (λ u. with u y) e.is ∙ with_with k x y }
 
-is_ascii_digit_of : (b : ℕ) → is_digit b ≡ true → IsAsciiDigit b
+pub is_ascii_digit_of : (b : ℕ) → is_digit b ≡ true → IsAsciiDigit b
 is_ascii_digit_of b h = (grind (arith, nat_tests), grind (arith, nat_tests))
 
-each_digits : {xs : List ℕ} → Each is_digit xs → AreDigits xs
+pub each_digits : {xs : List ℕ} → Each is_digit xs → AreDigits xs
 each_digits none = tt
 each_digits (more {b} p a) = (is_ascii_digit_of b p, each_digits a)
 
-digits_append : (xs ys : List ℕ) → AreDigits xs → AreDigits ys → AreDigits (xs ++ ys)
+pub digits_append : (xs ys : List ℕ) → AreDigits xs → AreDigits ys → AreDigits (xs ++ ys)
 digits_append [] ys h k = k
 digits_append (x ∷ xs) ys h k = (h.0, digits_append xs ys h.1 k)
 
@@ -49,14 +49,15 @@ adds_none {k} = record { piece = []; is = tt; text = gains_none }
 pub adds_digits : {k l m : Kept} {ds : List ℕ} → Adds AreDigits k l → Each is_digit ds → Gains l ds m → Adds AreDigits k m
 adds_digits {ds = ds} h a e = record { piece = h.piece ++ ds; is = digits_append h.piece ds h.is (each_digits a); text = gains_on h.text e }
 
-pub adds_some : {k l m : Kept} {b : ℕ} → is_digit b ≡ true → Gains k (b ∷ []) l → Adds AreDigits l m → Adds IsDigits k m
-adds_some {b = b} p e h = record { piece = b ∷ h.piece; is = n.digits (is_ascii_digit_of b p) h.is; text = gains_on e h.text }
+-- digits behind the first ones, which were added at once
+pub adds_some : {k l m : Kept} {b : ℕ} (ds : List ℕ) → is_digit b ≡ true → AreDigits ds → Gains k (b ∷ ds) l → Adds AreDigits l m → Adds IsDigits k m
+adds_some {b = b} ds p d e h = record { piece = b ∷ (ds ++ h.piece); is = n.digits (is_ascii_digit_of b p) (digits_append ds h.piece d h.is); text = gains_on e h.text }
+
+pub adds_int : {k l m : Kept} {b : ℕ} (ds : List ℕ) → b ≢ 48 → is_digit b ≡ true → AreDigits ds → Gains k (b ∷ ds) l → Adds AreDigits l m → Adds IsInt k m
+adds_int {b = b} ds z p d e h = record { piece = b ∷ (ds ++ h.piece); is = n.int (is_ascii_digit_of b p) z (digits_append ds h.piece d h.is); text = gains_on e h.text }
 
 pub adds_zero : {k l : Kept} {b : ℕ} → b ≡ 48 → Gains k (b ∷ []) l → Adds IsInt k l
 adds_zero {k} {l} {b} e f = record { piece = codes "0"; is = n.zero_int; text = rw e at f }
-
-pub adds_int : {k l m : Kept} {b : ℕ} → b ≢ 48 → is_digit b ≡ true → Gains k (b ∷ []) l → Adds AreDigits l m → Adds IsInt k m
-adds_int {b = b} z p e h = record { piece = b ∷ h.piece; is = n.int (is_ascii_digit_of b p) z h.is; text = gains_on e h.text }
 
 pub no_fraction : {k : Kept} → Adds IsFractionText k k
 no_fraction {k} = record { piece = []; is = record { digits = []; reads = n.no_fraction }; text = gains_none }

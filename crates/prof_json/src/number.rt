@@ -1,7 +1,7 @@
 // Numbers.
 #![tactic(auto, using(crate::proofs::Journeys::moves_trans, crate::proofs::Journeys::moves_here, crate::proofs::Journeys::moves_pass, crate::proofs::Journeys::moves_wrong, crate::proofs::Journeys::moves_deep, crate::proofs::Journeys::moves_full))]
 
-ghost use Rattle.std.specs.Prelude.{◌≡◌, ◌≢◌, ◌<◌, ◌≤◌, ◌⊎◌, ℕ, List, [], ◌∷◌, ◌++◌, true, false, IfOk, IfErr, IfSome, OnOk, Some};
+ghost use Rattle.std.specs.Prelude.{◌≡◌, ◌≢◌, ◌<◌, ◌≤◌, ◌⊎◌, ℕ, List, [], ◌∷◌, ◌++◌, true, false, Option, IfOk, IfErr, IfSome, OnOk, Some};
 ghost use Rattle.prof_grammar.specs.Machine.{Part, Stage, Next, class, step, digits, in_exponent, after_e, begin_value};
 ghost use Rattle.prof_grammar.specs.Reading.{max_depth};
 ghost use Rattle.prof_grammar.specs.Told.{depth};
@@ -31,6 +31,24 @@ fn read_byte(input: &mut Input, text: &mut Buffer, byte: u8) -> Result<(), JsonF
 {
     text.push(&[byte])?;
     input.pass(1);
+    Ok(())
+}
+
+/// Reads the digits that are ahead, of which the first is shown.
+fn read_run(input: &mut Input, text: &mut Buffer, first: u8) -> Result<(), JsonFault>
+    requires next { IsNext first input.old }
+    requires digit { bytes_spec.is_digit first ≡ true }
+    ensures run { OnOk result ((n : ℕ) × (0 < n) × Passes n input.old input.new) }
+    ensures text { OnOk result ((ds : List ℕ) × AreDigits ds × Gains text.old (first ∷ ds) text.new) }
+    ensures err { IfErr result (λ fault. (fault ≡ JsonFault.NoMemory) × (input.new ≡ input.old)) }
+    ensures exact { (left : Option (List ℕ)) (begun : Kept) (n : Stage) (s : List ℕ) (qs ps : List Part) → step qs (class first) first ≡ Some ([], digits n (s ++ first ∷ []) ∷ ps) →
+        IsRunning n → Gains begun s text.old → depth ps ≤ max_depth →
+        Writes (fault_of result) begun input.old left qs silent input.new left text.new (λ t. digits n t ∷ ps) }
+{
+    let ahead = input.ahead();
+    let run = digit_len(ahead);
+    text.push(&ahead[..run])?;
+    input.pass(run);
     Ok(())
 }
 
@@ -88,7 +106,7 @@ fn read_some_digits<S: Source>(
     if !is_digit(first) {
         return Err(input.wrong());
     }
-    read_byte(input, text, first)?;
+    read_run(input, text, first)?;
     read_digits(input, src, text)
 }
 
@@ -112,10 +130,11 @@ fn read_whole<S: Source>(
         Gains begun s text.old → depth ps ≤ max_depth →
         Writes (fault_of result) begun input.old (S.left src.old) qs silent input.new (S.left src.new) text.new (λ t. digits (whole_stage first) t ∷ ps) }
 {
-    read_byte(input, text, first)?;
     if first == b'0' {
+        read_byte(input, text, first)?;
         return input.peek(src);
     }
+    read_run(input, text, first)?;
     read_digits(input, src, text)
 }
 

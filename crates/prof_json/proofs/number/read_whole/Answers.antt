@@ -1,4 +1,4 @@
-use Rattle.std.proofs.Common.{ℕ, List, [], ◌∷◌, ◌++◌, arith}
+use Rattle.std.proofs.Common.{ℕ, List, [], ◌∷◌, ◌++◌, refl, arith}
 use Rattle.prof_grammar.specs.Machine.{digits}
 use Rattle.prof_json.specs.Writes.{silent}
 use Rattle.prof_json.specs.Stages.{whole_stage}
@@ -35,14 +35,17 @@ returns-then-first-eq48-clause-exact g c = λ begun s qs ps e h d.
     (writes_goes silent to (s ++ c.args.first ∷ []) (gains_on h c.in_ok-read_byte.ensures.text) (c.peek.ensures.exact (to (s ++ c.args.first ∷ []))))
 
 pub returns-clause-moves : goal.returns-clause-moves
-returns-clause-moves g c = moves_trans (moves_pass (moves_here _ _ _) c.in_ok-read_byte.ensures.passed) c.read_digits.ensures.moves
+returns-clause-moves g c = moves_trans (moves_pass (moves_here _ _ _) c.in_ok-read_run.ensures.run.2) c.read_digits.ensures.moves
 
 pub returns-clause-text : goal.returns-clause-text
-returns-clause-text g c = on_ok_map c.read_digits.result (adds_int c.if-first-eq48.false c.requires.digit c.in_ok-read_byte.ensures.text) c.read_digits.ensures.text
+returns-clause-text g c =
+    let t = c.in_ok-read_run.ensures.text in
+    on_ok_map c.read_digits.result (adds_int t.0 c.if-first-eq48.false c.requires.digit t.1 t.2) c.read_digits.ensures.text
 
 pub returns-clause-further : goal.returns-clause-further
 returns-clause-further g c =
-    let p = c.in_ok-read_byte.ensures.passed.place in
+    let some = c.in_ok-read_run.ensures.run.1 in
+    let p = c.in_ok-read_run.ensures.run.2.place in
     let q = c.read_digits.ensures.moves.on in
     on_ok c.read_digits.result (omega arith)
 
@@ -51,5 +54,7 @@ returns-clause-over g c = if_ok_map c.read_digits.result (λ o d. t.ends_whole c
 
 pub returns-clause-exact : goal.returns-clause-exact
 returns-clause-exact g c = λ begun s qs ps e h d.
-    writes_on (goes_byte c.args.first c.requires.next c.in_ok-read_byte.ensures.passed e d)
-    (c.read_digits.ensures.exact begun (whole_stage c.args.first) (s ++ c.args.first ∷ []) ps (t.whole_runs c.args.first c.if-first-eq48.false) (gains_on h c.in_ok-read_byte.ensures.text) d)
+    let n = whole_stage c.args.first in
+    let runs = t.whole_runs c.args.first c.if-first-eq48.false in
+    let w = c.in_ok-read_run.ensures.exact (g.S.Counted.left c.args.src.now) begun n s qs ps e runs h d in
+    writes_on w.goes (c.read_digits.ensures.exact begun n w.text ps runs (w.kept refl) d)
