@@ -1,7 +1,13 @@
 #!/usr/bin/env python3
 """Writes a processed profile to the standard output: FUNCS functions, STACKS stack rows of a depth below 64, and SAMPLES
-samples, a tenth of a millisecond apart. The same numbers give the same text."""
+samples, a tenth of a millisecond apart. With a fourth word a thread without samples stands before this one, so that the
+first thread's tree is empty. The same words give the same text."""
 import sys
+
+EMPTY = (
+    '{"stringArray":[],"funcTable":{"name":[]},"frameTable":{"func":[]},"stackTable":{"frame":[],"prefix":[]},'
+    '"samples":{"stack":[],"time":[]}}'
+)
 
 
 def numbers(seed):
@@ -37,7 +43,8 @@ def main():
             column("stack", (str(next(draw) % stacks) for _ in range(samples))),
             column("time", ("%d.%d" % divmod(i, 10) for i in range(samples)))),
     ])
-    sys.stdout.write('{"meta":{"preprocessedProfileVersion":47},"threads":[{%s}]}\n' % tables)
+    threads = (EMPTY + "," if len(sys.argv) > 4 else "") + "{%s}" % tables
+    sys.stdout.write('{"meta":{"preprocessedProfileVersion":47},"threads":[%s]}\n' % threads)
 
 
 main()
