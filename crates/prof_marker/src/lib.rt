@@ -1,0 +1,17 @@
+//! The markers of a thread, and the search among them.
+#![tactic(auto)]
+
+mod alone;
+mod drafts;
+mod list;
+mod pairing;
+mod searching;
+mod seeker;
+mod times;
+
+pub use list::{Marker, MarkerList};
+pub use pairing::derive;
+pub use searching::{search, spans};
+
+#[cfg(test)]
+mod tests;
