@@ -5,3 +5,4 @@ pub mod Keeping
 pub mod Placed
 pub mod Occurring
 pub mod Passing
+pub mod ByRows

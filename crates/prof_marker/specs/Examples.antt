@@ -9,6 +9,7 @@ use Rattle.prof_path.specs.Terms.{terms_of}
 use Rattle.prof_path.specs.Rows.{p_tables}
 use Rattle.prof_marker.specs.declared.list.Marker.{Marker}
 use Rattle.prof_marker.specs.Markers.{pair}
+use Rattle.prof_marker.specs.ByRow.{rows_markers}
 use Rattle.prof_marker.specs.Found.{found, spans}
 
 abbrev at : ℕ → SampleRow
@@ -58,6 +59,10 @@ m_markers =
 m_pairs : pair (thread six_samples m_rows) ≡ m_markers
 m_pairs = refl
 
+-- the same, row by row
+m_by_row : rows_markers shared.strings (Some (pos 0)) (Some (pos 5000000)) [] m_rows ≡ m_markers
+m_by_row = refl
+
 -- without samples the unpaired rows have their own times alone
 m_pairs_alone : pair (thread [] m_rows) ≡ marker 0 1000000 3000000 ∷ record (marker 1 2000000 2000000) { texts = (0, 1) } ∷ marker 0 4000000 4000000 ∷ marker 1 4500000 4500000 ∷ []
 m_pairs_alone = refl
@@ -67,6 +72,11 @@ m_pairs_alone = refl
 nested : pair (thread six_samples (row 0 2 (Some (pos 1)) None ∷ row 2 2 (Some (pos 2)) None ∷ record (row 0 3 None (Some (pos 3))) { texts = (0, 1) } ∷ row 2 3 None (Some (pos 4)) ∷ []))
     ≡ marker 0 1 4 ∷ record (marker 2 2 3) { more = (0, 1) } ∷ []
 nested = refl
+
+-- a start with two later starts of its name, of which one stays open, is open still
+nested_by_row : rows_markers shared.strings None None [] (row 0 2 (Some (pos 1)) None ∷ row 0 2 (Some (pos 2)) None ∷ row 2 2 (Some (pos 3)) None ∷ row 0 3 None (Some (pos 4)) ∷ row 0 3 None (Some (pos 5)) ∷ [])
+    ≡ marker 0 1 1 ∷ marker 0 2 5 ∷ marker 2 3 4 ∷ []
+nested_by_row = refl
 
 -- a row after the last sample, and one before the first, keep their own times
 outside : pair (thread (at 5 ∷ at 7 ∷ []) (row 0 3 None (Some (pos 2)) ∷ row 0 2 (Some (pos 9)) None ∷ row 1 1 (Some (pos 1)) (Some (pos 8)) ∷ []))

@@ -1,4 +1,5 @@
 pub mod Markers
+pub mod ByRow
 pub mod Found
 pub mod Lowered
 pub mod Kept
