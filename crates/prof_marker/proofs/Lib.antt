@@ -6,3 +6,4 @@ pub mod Placed
 pub mod Occurring
 pub mod Passing
 pub mod ByRows
+pub mod Known

@@ -24,7 +24,7 @@ pub fn search(
 {
     let strings = thread.strings();
     let texts = thread.markers().texts.as_slice();
-    let mut seeker = Seeker::new(alloc, terms)?;
+    let mut seeker = Seeker::new(alloc, strings, terms)?;
     let mut places = Vec::new(alloc);
     for (place, marker) in markers.as_slice().iter().enumerate() {
         if seeker.finds(strings, texts, *marker, ranges)? {
@@ -57,7 +57,7 @@ pub fn spans(
     let strings = thread.strings();
     let texts = thread.markers().texts.as_slice();
     let terms = terms(alloc, search)?;
-    let mut seeker = Seeker::new(alloc, &terms)?;
+    let mut seeker = Seeker::new(alloc, strings, &terms)?;
     let mut list = SpanList::new(alloc);
     for marker in markers.as_slice() {
         if seeker.finds(strings, texts, *marker, &[])? {

@@ -1,9 +1,9 @@
 //! Where the terms of a search occur.
-ghost use Rattle.std.specs.Prelude.{◌≡◌, ℕ, ◌<◌, ◌≤◌, ◌==◌, List, length, map, IfOk, is_some, slice_range, string_bytes};
+ghost use Rattle.std.specs.Prelude.{◌≡◌, ℕ, ◌<◌, ◌≤◌, ◌==◌, List, length, map, replicate, None, OnOk, IfOk, is_some, slice_range, string_bytes};
 ghost use Rattle.std.specs.Str.{str_to_ascii_lowercase};
 ghost use Rattle.std.specs.List.{list_any, list_all};
 ghost use Rattle.prof_path.specs.Terms.{has_within};
-ghost use Rattle.prof_marker.specs.Lowered.{has_lowered};
+ghost use Rattle.prof_marker.specs.Lowered.{has_lowered, IsReady};
 ghost use Rattle.prof_marker.specs.Markers.{name_text};
 ghost use Rattle.prof_marker.specs.Found.{overlaps, is_found, words_of};
 ghost use Rattle.prof_marker.specs.Ties.{IsPlaced};
@@ -22,6 +22,8 @@ pub struct Seeker {
     terms: Vec<String>,
     /// A text in lower case, in memory that serves the next one too.
     lowered: Vec<u8>,
+    /// Of each string whether some term occurs in it, where that was looked for.
+    names: Vec<Option<bool>>,
 }
 
 /// Whether a text has a term somewhere, byte for byte.
@@ -57,23 +59,39 @@ pub fn overlaps_all(marker: Marker, ranges: &[Range]) -> bool
     ranges.iter().all(|range| overlaps(marker, *range))
 }
 
+fn lowered_terms(alloc: Global, terms: &TermList) -> Result<Vec<String>, AllocError>
+    ensures { IfOk result (λ v. map string_bytes v.items ≡ map str_to_ascii_lowercase terms.now) }
+{
+    let mut lowered = Vec::new(alloc);
+    for term in terms.as_slice() {
+        lowered.push(term.as_str().to_ascii_lowercase(alloc)?)?;
+    }
+    Ok(lowered)
+}
+
+fn nones(alloc: Global, count: usize) -> Result<Vec<Option<bool>>, AllocError>
+    ensures { IfOk result (λ v. v.items ≡ replicate count None) }
+{
+    vec![in alloc; None; count]
+}
+
 impl Seeker {
-    pub fn new(alloc: Global, terms: &TermList) -> Result<Self, AllocError>
-        ensures { IfOk result (λ s. map string_bytes s.terms.items ≡ map str_to_ascii_lowercase terms.now) }
+    /// Looks for these terms in the names and texts of markers whose names stand in these strings.
+    pub fn new(alloc: Global, strings: &Strings, terms: &TermList) -> Result<Self, AllocError>
+        ensures terms { IfOk result (λ s. map string_bytes s.terms.items ≡ map str_to_ascii_lowercase terms.now) }
+        ensures ready { IfOk result (IsReady strings.now) }
     {
-        let mut lowered = Vec::new(alloc);
-        for term in terms.as_slice() {
-            lowered.push(term.as_str().to_ascii_lowercase(alloc)?)?;
-        }
         Ok(Seeker {
-            terms: lowered,
+            terms: lowered_terms(alloc, terms)?,
             lowered: Vec::new(alloc),
+            names: nones(alloc, strings.count() as usize)?,
         })
     }
 
     /// Whether some term occurs in a text.
     fn occurs_in(&mut self, text: &str) -> Result<bool, AllocError>
         ensures terms { self.new.terms.items ≡ self.old.terms.items }
+        ensures names { self.new.names.items ≡ self.old.names.items }
         ensures value { IfOk result (λ b. b ≡ has_lowered (map string_bytes self.old.terms.items) text.now) }
     {
         self.lowered.clear();
@@ -82,10 +100,11 @@ impl Seeker {
         Ok(some_occurs(self.lowered.as_slice(), self.terms.as_slice()))
     }
 
-    /// Whether some term occurs in a name.
-    fn occurs_in_name(&mut self, strings: &Strings, name: u32) -> Result<bool, AllocError>
+    /// Whether some term occurs in a string.
+    fn occurs_in_string(&mut self, strings: &Strings, name: u32) -> Result<bool, AllocError>
         requires { name < length strings.now }
         ensures terms { self.new.terms.items ≡ self.old.terms.items }
+        ensures names { self.new.names.items ≡ self.old.names.items }
         ensures value { IfOk result (λ b. b ≡ has_lowered (map string_bytes self.old.terms.items) (name_text strings.now name)) }
     {
         match strings.get(name) {
@@ -94,9 +113,26 @@ impl Seeker {
         }
     }
 
+    /// Whether some term occurs in a name, which is looked for once.
+    fn occurs_in_name(&mut self, strings: &Strings, name: u32) -> Result<bool, AllocError>
+        requires name { name < length strings.now }
+        requires ready { IsReady strings.now self.old }
+        ensures terms { self.new.terms.items ≡ self.old.terms.items }
+        ensures ready { OnOk result (IsReady strings.now self.new) }
+        ensures value { IfOk result (λ b. b ≡ has_lowered (map string_bytes self.old.terms.items) (name_text strings.now name)) }
+    {
+        if let Some(occurs) = self.names[name as usize] {
+            return Ok(occurs);
+        }
+        let occurs = self.occurs_in_string(strings, name)?;
+        self.names[name as usize] = Some(occurs);
+        Ok(occurs)
+    }
+
     /// Whether some term occurs in one of these texts.
     fn occurs_among(&mut self, texts: &[Text]) -> Result<bool, AllocError>
         ensures terms { self.new.terms.items ≡ self.old.terms.items }
+        ensures names { self.new.names.items ≡ self.old.names.items }
         ensures value { IfOk result (λ b. b ≡ list_any (has_lowered (map string_bytes self.old.terms.items)) texts.now) }
     {
         for text in texts {
@@ -114,8 +150,10 @@ impl Seeker {
         texts: &[Text],
         marker: Marker,
     ) -> Result<bool, AllocError>
-        requires { IsPlaced (length strings.now) (length texts.now) marker }
+        requires placed { IsPlaced (length strings.now) (length texts.now) marker }
+        requires ready { IsReady strings.now self.old }
         ensures terms { self.new.terms.items ≡ self.old.terms.items }
+        ensures ready { OnOk result (IsReady strings.now self.new) }
         ensures value { IfOk result (λ b. b ≡ list_any (has_lowered (map string_bytes self.old.terms.items)) (words_of strings.now texts.now marker)) }
     {
         if self.occurs_in_name(strings, marker.name)? {
@@ -137,8 +175,10 @@ impl Seeker {
         marker: Marker,
         ranges: &[Range],
     ) -> Result<bool, AllocError>
-        requires { IsPlaced (length strings.now) (length texts.now) marker }
+        requires placed { IsPlaced (length strings.now) (length texts.now) marker }
+        requires ready { IsReady strings.now self.old }
         ensures terms { self.new.terms.items ≡ self.old.terms.items }
+        ensures ready { OnOk result (IsReady strings.now self.new) }
         ensures value { (terms : List (List ℕ)) → map string_bytes self.old.terms.items ≡ map str_to_ascii_lowercase terms
             → IfOk result (λ b. b ≡ is_found strings.now texts.now terms ranges.now marker) }
     {

@@ -13,13 +13,13 @@ use Rattle.prof_marker.proofs.searching.search.Goals as goal
 use Rattle.prof_marker.proofs.searching.search.Goals.{then-branch+in_ok-push, else-branch}
 
 pub loop-place-init : goal.loop-place-init
-loop-place-init c = record { terms = c.in_ok-seeker.ensures; places = c.new-places.ensures.items }
+loop-place-init c = record { ready = c.in_ok-seeker.ensures.ready; terms = c.in_ok-seeker.ensures.terms; places = c.new-places.ensures.items }
 
 abbrev blank : Marker
 blank = record { name = 0; start = pos 0; end = pos 0; texts = (0, 0); more = (0, 0) }
 
-pub finds-requires : goal.finds-requires
-finds-requires c =
+pub finds-requires-clause-placed : goal.finds-requires-clause-placed
+finds-requires-clause-placed c =
     let t = c.args.thread.now in
     let same : c.as_slice-marker-items.result.now ≡ pair t = c.as_slice-marker-items.ensures ∙ c.requires in
     let texts : c.as_slice-texts.result.now ≡ t.markers.texts = c.as_slice-texts.ensures.value ∙ ap (λ (m : MarkerRows). m.texts) (c.behind-thread.view_is ∙ c.markers.ensures.rows) in
@@ -42,6 +42,7 @@ loop-place-preserved c =
     let found = c.in_ok-finds.ensures.value c.args.terms.now c.loop-place.invariant.terms in
     elim c.if-branch.branch [
       | then-branch+in_ok-push w ↦ record {
+        ready = c.in_ok-finds.ensures.ready;
         terms = terms;
         places = ap (λ v. v.items) w.places-is
             ∙ (w.in_ok-push.ensures.items
@@ -49,6 +50,7 @@ loop-place-preserved c =
             ∙ sym (places_pass test items c.loop-place.place blank c.loop-place-test.true (sym found ∙ w.if-branch.true))));
       }
       | else-branch w ↦ record {
+        ready = c.in_ok-finds.ensures.ready;
         terms = terms;
         places = ap (λ v. v.items) w.places-is
             ∙ (c.loop-place.invariant.places

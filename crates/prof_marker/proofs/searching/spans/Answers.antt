@@ -17,13 +17,13 @@ use Rattle.prof_marker.proofs.searching.spans.Goals as goal
 use Rattle.prof_marker.proofs.searching.spans.Goals.{then-branch+in_ok-push, else-branch}
 
 pub loop-marker-init : goal.loop-marker-init
-loop-marker-init c = record { terms = c.in_ok-seeker.ensures ∙ ap (map str_to_ascii_lowercase) c.in_ok-terms.ensures; spans = c.new-list.ensures }
+loop-marker-init c = record { ready = c.in_ok-seeker.ensures.ready; terms = c.in_ok-seeker.ensures.terms ∙ ap (map str_to_ascii_lowercase) c.in_ok-terms.ensures; spans = c.new-list.ensures }
 
 abbrev blank : Marker
 blank = record { name = 0; start = pos 0; end = pos 0; texts = (0, 0); more = (0, 0) }
 
-pub finds-requires : goal.finds-requires
-finds-requires c =
+pub finds-requires-clause-placed : goal.finds-requires-clause-placed
+finds-requires-clause-placed c =
     let t = c.args.thread.now in
     let same : c.as_slice-marker-items.result.now ≡ pair t = c.as_slice-marker-items.ensures ∙ c.requires in
     let texts : c.as_slice-texts.result.now ≡ t.markers.texts = c.as_slice-texts.ensures.value ∙ ap (λ (m : MarkerRows). m.texts) (c.behind-thread.view_is ∙ c.markers.ensures.rows) in
@@ -42,6 +42,7 @@ loop-marker-preserved c =
     let found = c.in_ok-finds.ensures.value (terms_of c.args.search.now) c.loop-marker.invariant.terms in
     elim c.if-branch.branch [
       | then-branch+in_ok-push w ↦ record {
+        ready = c.in_ok-finds.ensures.ready;
         terms = terms;
         spans = w.list-is
             ∙ (w.in_ok-push.ensures.ok
@@ -51,6 +52,7 @@ loop-marker-preserved c =
             ∙ map-append span_of (filter test (take i items)) (get_or items i blank ∷ [])))));
       }
       | else-branch w ↦ record {
+        ready = c.in_ok-finds.ensures.ready;
         terms = terms;
         spans = w.list-is
             ∙ (c.loop-marker.invariant.spans
