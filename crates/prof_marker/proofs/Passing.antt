@@ -1,8 +1,8 @@
 -- The items that pass a test, as a loop comes to them
-use Rattle.std.proofs.Common.{append-nil, suc, ◌≡◌, ◌+◌, ◌<◌, ℕ, Bool, true, false, cond, List, [], ◌∷◌, ◌++◌, length, map, take, get_or, ap, ◌∙◌, arith}
-use Rattle.std.specs.List.{filter, enumerate_from}
+use Rattle.std.proofs.Common.{subst, append-nil, suc, ◌≡◌, ◌+◌, ◌<◌, ℕ, Bool, true, false, cond, List, [], ◌∷◌, ◌++◌, length, map, take, get_or, ap, ◌∙◌, arith}
+use Rattle.std.specs.List.{All, filter, enumerate_from}
 use Rattle.std.proofs.lemmas.List.{map-append, take_more, length-take-le}
-use Rattle.std.proofs.lemmas.List.Elements.{filter-append}
+use Rattle.std.proofs.lemmas.List.Elements.{filter-append, All-cons}
 use Rattle.prof_marker.specs.Found.{places}
 
 enumerate_from-push : {A : Type 0} (n : ℕ) (xs : List A) (x : A) → enumerate_from n (xs ++ x ∷ []) ≡ enumerate_from n xs ++ (n + length xs, x) ∷ []
@@ -47,3 +47,20 @@ module _ {A : Type 0} (test : A → Bool) where
   pub places_fail : (xs : List A) (i : ℕ) (d : A) → i < length xs → test (get_or xs i d) ≡ false → places test (take (i + 1) xs) ≡ places test (take i xs)
   places_fail xs i d lt t =
       places_one xs i d lt ∙ (ap (λ b. places test (take i xs) ++ map (λ (e : ℕ × A). e.0) (cond b ((i, get_or xs i d) ∷ []) [])) t ∙ append-nil (places test (take i xs)))
+
+  -- each place lies within the list
+  within_from : (n : ℕ) (xs : List A) → All (λ k. k < n + length xs) (map (λ (e : ℕ × A). e.0) (filter tested (enumerate_from n xs)))
+  within_from n [] = λ k d lt. absurd (omega arith)
+  within_from n (x ∷ xs) =
+      let same : n + 1 + length xs ≡ n + suc (length xs) = omega arith in
+      let rest = subst (λ m. All (λ k. k < m) (map (λ (e : ℕ × A). e.0) (filter tested (enumerate_from (n + 1) xs)))) same (within_from (n + 1) xs) in
+      let first : n < n + suc (length xs) = omega arith in
+      elim (test x) as (λ b. All (λ k. k < n + suc (length xs)) (map (λ (e : ℕ × A). e.0) (cond b ((n, x) ∷ filter tested (enumerate_from (n + 1) xs)) (filter tested (enumerate_from (n + 1) xs))))) [
+        | true ↦ All-cons (λ k. k < n + suc (length xs)) n (map (λ (e : ℕ × A). e.0) (filter tested (enumerate_from (n + 1) xs))) first rest
+        | false ↦ rest
+      ]
+
+  pub places_within : (xs : List A) → All (λ k. k < length xs) (places test xs)
+  places_within xs =
+      let same : 0 + length xs ≡ length xs = omega arith in
+      subst (λ m. All (λ k. k < m) (places test xs)) same (within_from 0 xs)

@@ -1,5 +1,5 @@
 //! The markers that a search finds.
-ghost use Rattle.std.specs.Prelude.{◌≡◌, IfOk};
+ghost use Rattle.std.specs.Prelude.{◌≡◌, ◌<◌, length, All, IfOk};
 ghost use Rattle.prof_marker.specs.Markers.{pair};
 ghost use Rattle.prof_marker.specs.Found.{found, span_of, spans};
 
@@ -20,7 +20,8 @@ pub fn search(
     ranges: &[Range],
 ) -> Result<Vec<u32>, NoMemory>
     requires { markers.now ≡ pair thread.now }
-    ensures { IfOk result (λ v. v.items ≡ found thread.now terms.now ranges.now markers.now) }
+    ensures places { IfOk result (λ v. v.items ≡ found thread.now terms.now ranges.now markers.now) }
+    ensures within { IfOk result (λ v. All (λ place. place < length markers.now) v.items) }
 {
     let strings = thread.strings();
     let texts = thread.markers().texts.as_slice();

@@ -1,4 +1,4 @@
-use Rattle.std.proofs.Common.{get_or, ◌≡◌, pos, [], ◌∷◌, ◌++◌, length, map, string_bytes, sym, ap, subst, ◌∙◌, arith}
+use Rattle.std.proofs.Common.{◌<◌, get_or, ◌≡◌, pos, [], ◌∷◌, ◌++◌, length, map, string_bytes, sym, ap, subst, ◌∙◌, arith}
 use Rattle.std.specs.List.{All}
 use Rattle.std.proofs.lemmas.List.{take_all}
 use Rattle.prof_tables.specs.Threads.{MarkerRows}
@@ -8,7 +8,7 @@ use Rattle.prof_marker.specs.Found.{is_found}
 use Rattle.prof_marker.specs.Ties.{IsPlaced}
 use Rattle.prof_marker.proofs.Placed.{pair_placed, pair_few}
 use Rattle.prof_marker.specs.Found.{places}
-use Rattle.prof_marker.proofs.Passing.{places_pass, places_fail}
+use Rattle.prof_marker.proofs.Passing.{places_pass, places_fail, places_within}
 use Rattle.prof_marker.proofs.searching.search.Goals as goal
 use Rattle.prof_marker.proofs.searching.search.Goals.{then-branch+in_ok-push, else-branch}
 
@@ -58,8 +58,8 @@ loop-place-preserved c =
       }
     ]
 
-pub returns : goal.returns
-returns c =
+pub returns-clause-places : goal.returns-clause-places
+returns-clause-places c =
     let t = c.args.thread.now in
     let terms = c.args.terms.now in
     let ranges = c.args.ranges.now in
@@ -69,3 +69,9 @@ returns c =
     ∙ (ap (places (is_found c.strings-strings.result.now c.as_slice-texts.result.now terms ranges)) items
     ∙ (ap (λ s. places (is_found s c.as_slice-texts.result.now terms ranges) c.args.markers.now) c.strings-strings.ensures
     ∙ ap (λ x. places (is_found t.shared.strings x terms ranges) c.args.markers.now) texts))
+
+pub returns-clause-within : goal.returns-clause-within
+returns-clause-within c =
+    let t = c.args.thread.now in
+    subst (All (λ k. k < length c.args.markers.now)) (sym (returns-clause-places c))
+    (places_within (is_found t.shared.strings t.markers.texts c.args.terms.now c.args.ranges.now) c.args.markers.now)
