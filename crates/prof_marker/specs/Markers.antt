@@ -36,7 +36,8 @@ pub record Draft : Type 0 where
 abbrev pub whole : Marker → Draft
 whole m = record { marker = m; is_open = false }
 
--- an instant ends where it starts, and an interval has both its times. A start without an end ends at the last sample at
+-- a time that isn't there counts as 0; a thread that was built has each time that a row's phase needs.
+-- An instant ends where it starts, and an interval has both its times. A start without an end ends at the last sample at
 -- the earliest, and an end without a start begins at the first sample at the latest
 abbrev pub instant : RawMarker → Draft
 instant m = whole (spanning m (number_of m.start) (number_of m.start))
