@@ -1,0 +1,10 @@
+pub mod Simulates
+pub mod Rewritten
+pub mod Acts
+pub mod Passing
+pub mod Focusing
+pub mod Following
+pub mod Kept
+pub mod Stacked
+pub mod Common
+pub mod Examples
