@@ -6,5 +6,7 @@ pub mod Nearest
 pub mod Readings
 pub mod Samples
 pub mod Scaling
+pub mod Shorts
 pub mod Spellings
+pub mod Tens
 pub mod Wholes

@@ -1,10 +1,9 @@
 -- A number's text means one number.
-use Rattle.std.proofs.Common.{◌≡◌, ℕ, ◌+◌, ◌*◌, ◌/◌, ◌%◌, ◌<◌, cond, List, length, refl, sym, ap, ◌∙◌, arith, subst}
+use Rattle.std.proofs.Common.{◌≡◌, ℕ, ◌+◌, ◌*◌, ◌/◌, ◌<◌, cond, List, length, refl, sym, ap, ◌∙◌, subst}
 use Rattle.std.specs.Prelude.{ℤ}
-use Rattle.std.proofs.Math.Nat.{mul_assoc, mul_comm, mul-add, add-mul}
-use Rattle.std.proofs.lemmas.Nat.{div-add-mod', mod_below}
 use Rattle.prof_time.specs.Numeral.{Numeral, IsNumber}
 use Rattle.prof_time.specs.Scaled.{digits_value, over, under, IsNearest, IsScaled, IsExact, signed}
+use Rattle.prof_time.proofs.Nearest.{nearest_quotient}
 use Rattle.prof_time.proofs.Readings.{same_numeral}
 use Rattle.prof_time.proofs.Scaling.{nearest_same, exact_same}
 use Rattle.prof_time.proofs.Values.{ten_pos}
@@ -25,14 +24,7 @@ same_exact text y z h k =
 
 -- a quotient has a nearest whole number
 nearest_of : (a b : ℕ) → 0 < b → (n : ℕ) × IsNearest a b n
-nearest_of a b h =
-    let n = (2 * a + b) / (2 * b) in
-    let r = (2 * a + b) % (2 * b) in
-    let parts : n * (2 * b) + r ≡ 2 * a + b = div-add-mod' (2 * a + b) (2 * b) in
-    let below : r < 2 * b = mod_below (2 * a + b) (2 * b) (omega arith) in
-    let low : 2 * n * b ≡ n * (2 * b) = ap (λ x. x * b) (mul_comm 2 n) ∙ mul_assoc n 2 b in
-    let high : 2 * (n + 1) * b ≡ 2 * n * b + 2 * b = ap (λ x. x * b) (mul-add 2 n 1) ∙ add-mul (2 * n) (2 * 1) b in
-    (n, record { low = omega arith; high = omega arith })
+nearest_of a b h = ((2 * a + b) / (2 * b), nearest_quotient a b h)
 
 under_pos : (m : Numeral) → 0 < under m
 unfolding under

@@ -1,9 +1,9 @@
 -- The nearest whole number, from the digits.
-use Rattle.std.proofs.Common.{◌≡◌, ℕ, suc, ◌+◌, ◌-◌, ◌*◌, ◌^◌, ◌<◌, ◌≤◌, true, false, cond, List, ◌∷◌, length, take, drop, get_or, sym, ap, ◌∙◌, arith, inl, inr, nat_le}
-use Rattle.std.proofs.Math.Nat.{mul-le-mul_right, mul-lt-mul_of_pos_right, add-mul, mul_assoc, mul-add, pow-le-pow_right, one-mul}
+use Rattle.std.proofs.Common.{◌≡◌, ℕ, suc, ◌+◌, ◌-◌, ◌*◌, ◌/◌, ◌%◌, ◌^◌, ◌<◌, ◌≤◌, true, false, cond, List, ◌∷◌, length, take, drop, get_or, sym, ap, ◌∙◌, arith, inl, inr, nat_le}
+use Rattle.std.proofs.Math.Nat.{mul-le-mul_right, mul-lt-mul_of_pos_right, add-mul, mul_assoc, mul_comm, mul-add, pow-le-pow_right, one-mul}
 use Rattle.std.proofs.lemmas.Bool.{cases_lt}
 use Rattle.std.proofs.lemmas.Bool.Decides.{nat_tests}
-use Rattle.std.proofs.lemmas.Nat.{pow-add}
+use Rattle.std.proofs.lemmas.Nat.{pow-add, div-add-mod', mod_below}
 use Rattle.std.proofs.lemmas.List.{drop_more, length-drop}
 use Rattle.prof_time.specs.Numeral.{AreDigits}
 use Rattle.prof_time.specs.Scaled.{digits_value, IsNearest}
@@ -25,6 +25,17 @@ nearest_up a q b r e lt h =
 
 pub nearest_whole : (n b : ℕ) → 0 < b → IsNearest (n * b) b n
 nearest_whole n b h = nearest_down (n * b) n b 0 (omega arith) (omega arith)
+
+-- half of the divisor more, and then the quotient
+pub nearest_quotient : (a b : ℕ) → 0 < b → IsNearest a b ((2 * a + b) / (2 * b))
+nearest_quotient a b h =
+    let n = (2 * a + b) / (2 * b) in
+    let r = (2 * a + b) % (2 * b) in
+    let parts : n * (2 * b) + r ≡ 2 * a + b = div-add-mod' (2 * a + b) (2 * b) in
+    let below : r < 2 * b = mod_below (2 * a + b) (2 * b) (omega arith) in
+    let low : 2 * n * b ≡ n * (2 * b) = ap (λ x. x * b) (mul_comm 2 n) ∙ mul_assoc n 2 b in
+    let high : 2 * (n + 1) * b ≡ 2 * n * b + 2 * b = ap (λ x. x * b) (mul-add 2 n 1) ∙ add-mul (2 * n) (2 * 1) b in
+    record { low = omega arith; high = omega arith }
 
 pub nearest_times : (a b n c : ℕ) → 0 < c → IsNearest a b n → IsNearest (a * c) (b * c) n
 nearest_times a b n c pos h =

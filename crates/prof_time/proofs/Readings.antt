@@ -1,8 +1,8 @@
 -- A number's text has one reading, which is found from the left.
-use Rattle.std.proofs.Common.{◌≡◌, ℕ, ◌+◌, Bool, true, false, List, [], ◌∷◌, ◌++◌, length, take, drop, take_while, refl, sym, ap, ◌∙◌, arith, eqb, lit≤}
+use Rattle.std.proofs.Common.{◌≡◌, ℕ, suc, ◌+◌, ◌-◌, ◌≤◌, Bool, true, false, cond, List, [], ◌∷◌, ◌++◌, length, take, drop, get_or, take_while, refl, sym, ap, ◌∙◌, arith, eqb, lit≤}
 use Rattle.std.specs.Char.{is_ascii_digit, IsAsciiDigit}
 use Rattle.std.specs.List.{prefix_len}
-use Rattle.std.proofs.Math.Seq.{take-append_seam, drop-append_seam}
+use Rattle.std.proofs.Math.Seq.{take-append_seam, drop-append_seam, take-length}
 use Rattle.std.proofs.lemmas.List.{append-nil}
 use Rattle.std.proofs.lemmas.Bool.Decides.{nat_tests}
 use Rattle.prof_time.specs.Numeral as n
@@ -29,6 +29,20 @@ digits_front ds rest h stops = ap (λ n. take n (ds ++ rest)) (digits_len ds res
 digits_rest : (ds rest : List ℕ) → AreDigits ds → Stops rest → behind_digits (ds ++ rest) ≡ rest
 digits_rest ds rest h stops = ap (λ n. drop n (ds ++ rest)) (digits_len ds rest h stops) ∙ drop-append_seam ds rest
 
+-- The digits that a text begins with are its first byte, if it is a digit, and those behind it.
+pub first_digit : (text : List ℕ) → 1 ≤ length text → is_ascii_digit (get_or text 0 0) ≡ true →
+    (take_while is_ascii_digit text ≡ get_or text 0 0 ∷ take_while is_ascii_digit (take (length text - 1) (drop 1 text)))
+    × (behind_digits text ≡ behind_digits (take (length text - 1) (drop 1 text)))
+    × (length text ≡ suc (length (take (length text - 1) (drop 1 text))))
+first_digit [] h test = absurd (omega arith)
+first_digit (b ∷ bs) h test =
+    let all : take (length (b ∷ bs) - 1) bs ≡ bs = ap (λ k. take k bs) (omega arith) ∙ take-length bs in
+    let len : prefix_len is_ascii_digit (b ∷ bs) ≡ suc (prefix_len is_ascii_digit bs) = ap (λ t. cond t (1 + prefix_len is_ascii_digit bs) 0) test ∙ omega arith in (
+      ap (λ k. take k (b ∷ bs)) len ∙ ap (λ ds. b ∷ take_while is_ascii_digit ds) (sym all),
+      ap (λ k. drop k (b ∷ bs)) len ∙ ap behind_digits (sym all),
+      ap (λ ds. suc (length ds)) (sym all),
+    )
+
 -- the first byte is a digit
 pub record BeginsWithDigit (text : List ℕ) : Type 0 where
   byte : ℕ
@@ -42,6 +56,9 @@ not_sign text b =
     let minus : eqb b.byte 45 ≡ false = grind (arith, nat_tests) in
     let plus : eqb b.byte 43 ≡ false = grind (arith, nat_tests) in
     (rw b.is (rw minus), rw b.is (rw (minus, plus)))
+
+pub digit_is_no_sign : (b : ℕ) (bs : List ℕ) → IsAsciiDigit b → (is_minus (b ∷ bs) ≡ false) × (without_sign (b ∷ bs) ≡ b ∷ bs)
+digit_is_no_sign b bs h = not_sign (b ∷ bs) (record { byte = b; rest = bs; is = refl; digit = h })
 
 begins_digits : (ds rest : List ℕ) → IsDigits ds → BeginsWithDigit (ds ++ rest)
 begins_digits ds rest (digits {d = d} {ds = es} p ps) = record { byte = d; rest = es ++ rest; is = refl; digit = p }

@@ -85,6 +85,33 @@ minus_twenty_five = (_, number n.IsSign.minus (whole 50 [] refl (not_zero 50 (li
 pub one_and_a_half : Reads (codes "1.5")
 one_and_a_half = (_, number no_sign (from_one [] refl) (point 53 [] refl) no_exponent)
 
+pub nothing : Reads (codes "0")
+nothing = (_, number no_sign zero_int no_fraction no_exponent)
+
+pub least_unit : Reads (codes "0.000001")
+least_unit = (_, number no_sign zero_int (point 48 (codes "00001") refl) no_exponent)
+
+pub more_places : Reads (codes "12.3456785")
+more_places = (_, number no_sign (from_one (codes "2") refl) (point 51 (codes "456785") refl) no_exponent)
+
+pub less_than_half : Reads (codes "0.9999994999999999")
+less_than_half = (_, number no_sign zero_int (point 57 (codes "999994999999999") refl) no_exponent)
+
+pub half_more : Reads (codes "1000000000000000.5")
+half_more = (_, number no_sign (from_one (codes "000000000000000") refl) (point 53 [] refl) no_exponent)
+
+pub nineteen_digits : Reads (codes "1000000000000000000")
+nineteen_digits = (_, number no_sign (from_one (codes "000000000000000000") refl) no_fraction no_exponent)
+
+pub fourteen_nines : Reads (codes "99999999999999")
+fourteen_nines = (_, number no_sign (from_nine (codes "9999999999999") refl) no_fraction no_exponent)
+
+pub eighteen_nines : Reads (codes "999999999999999999")
+eighteen_nines = (_, number no_sign (from_nine (codes "99999999999999999") refl) no_fraction no_exponent)
+
+pub twelve : Reads (codes "12.00")
+twelve = (_, number no_sign (from_one (codes "2") refl) (point 48 (codes "0") refl) no_exponent)
+
 pub great : Reads (codes "1e30")
 great = (_, number no_sign (from_one [] refl) no_fraction (up 51 (codes "0") refl))
 

@@ -113,8 +113,61 @@ pub(crate) fn value_behind(front: u128, digits: &[u8]) -> u128
     times_ten_to(front, digits.len() as u128).saturating_add(value)
 }
 
+/// The number that `front` and then the digits at the head of a text write, and the rest of the text.
+#[inline]
+pub(crate) fn read_digits(front: u64, text: &[u8]) -> (u64, &[u8])
+    requires { (front + 1) * 10 ^ length text.now ≤ 10 ^ 18 }
+    ensures value { result.0 ≡ fold (λ n d. 10 * n + (d - 48)) front (take_while is_ascii_digit text.now) }
+    ensures rest { result.1.now ≡ behind_digits text.now }
+    ensures small { (result.0 + 1) * 10 ^ length result.1.now ≤ 10 ^ 18 }
+{
+    let mut value = front;
+    let mut rest = text;
+    while let [byte, behind @ ..] = rest {
+        if !byte.is_ascii_digit() {
+            break;
+        }
+        value = 10 * value + u64::from(*byte - b'0');
+        rest = behind;
+    }
+    (value, rest)
+}
+
+/// The powers of ten that have 64 bits.
+const TENS: [u64; 20] = [
+    1,
+    10,
+    100,
+    1_000,
+    10_000,
+    100_000,
+    1_000_000,
+    10_000_000,
+    100_000_000,
+    1_000_000_000,
+    10_000_000_000,
+    100_000_000_000,
+    1_000_000_000_000,
+    10_000_000_000_000,
+    100_000_000_000_000,
+    1_000_000_000_000_000,
+    10_000_000_000_000_000,
+    100_000_000_000_000_000,
+    1_000_000_000_000_000_000,
+    10_000_000_000_000_000_000,
+];
+
 /// The greatest power of ten that has 64 bits.
 const MOST_TENS: u128 = 19;
+
+/// Ten to the power.
+#[inline]
+pub(crate) fn ten_to(power: u32) -> u64
+    requires { power ≤ 19 }
+    ensures { result ≡ 10 ^ power }
+{
+    TENS[power as usize]
+}
 
 /// The number times ten to the power, at most `u128::MAX`.
 pub(crate) fn times_ten_to(number: u128, power: u128) -> u128
@@ -126,7 +179,7 @@ pub(crate) fn times_ten_to(number: u128, power: u128) -> u128
     if power > MOST_TENS || number > u128::from(u64::MAX) {
         return times_great_power(number, power);
     }
-    number * u128::from(10u64.pow(power as u32))
+    number * u128::from(ten_to(power as u32))
 }
 
 /// The same for powers of any size.

@@ -8,6 +8,7 @@ mod decimal;
 mod digits;
 mod laws;
 mod reading;
+mod short;
 mod writing;
 
 pub use laws::{one_exact, one_numeral, one_scaled};

@@ -1,9 +1,10 @@
 //! Numbers read from their texts.
 ghost use Rattle.std.specs.Prelude.{◌≡◌, ℕ, ℤ, ◌*◌, ◌^◌, ◌<◌, ◌≤◌, IfOk, OnErr, IfSome, OnSome, IfNone, IsTrue, ◌↔◌, unsigned_abs};
 ghost use Rattle.prof_time.specs.Numeral.{Numeral, IsNumber};
-ghost use Rattle.prof_time.specs.Scaled.{IsScaled, IsExact};
+ghost use Rattle.prof_time.specs.Scaled.{IsScaled, IsExact, signed};
 
 use crate::decimal::Decimal;
+use crate::short::Short;
 use thiserror::Error;
 
 /// The greatest size of a number of nanoseconds.
@@ -24,19 +25,57 @@ pub fn read_scaled(text: &[u8], decimals: u32) -> Result<i64, TimeRange>
     ensures within { IfOk result (λ n. unsigned_abs n ≤ 9 * 10 ^ 18) }
     ensures range { OnErr result ((n : ℤ) × IsScaled text.now decimals n × (9 * 10 ^ 18 < unsigned_abs n)) }
 {
+    match Short::of(text) {
+        Some(short) => in_range(false, short.nearest(decimals)),
+        None => any_scaled(text, decimals),
+    }
+}
+
+/// The same by the way that serves every number, and is slower for a short one.
+#[inline(never)]
+fn any_scaled(text: &[u8], decimals: u32) -> Result<i64, TimeRange>
+    requires number { (m : Numeral) × IsNumber text.now m }
+    requires few { decimals ≤ 6 }
+    ensures nearest { IfOk result (λ n. IsScaled text.now decimals n) }
+    ensures within { IfOk result (λ n. unsigned_abs n ≤ 9 * 10 ^ 18) }
+    ensures range { OnErr result ((n : ℤ) × IsScaled text.now decimals n × (9 * 10 ^ 18 < unsigned_abs n)) }
+{
     let number = Decimal::of(text);
-    let size = number.nearest(decimals);
+    in_range(number.negative, number.nearest(decimals))
+}
+
+/// The number of that sign and size.
+#[inline]
+fn in_range(negative: bool, size: u128) -> Result<i64, TimeRange>
+    ensures ok { IfOk result (λ n. (n ≡ signed negative size) × (size ≤ 9 * 10 ^ 18)) }
+    ensures range { OnErr result (9 * 10 ^ 18 < size) }
+{
     if size > MOST {
         return Err(TimeRange);
     }
     let size = size as i64;
-    Ok(if number.negative { -size } else { size })
+    Ok(if negative { -size } else { size })
 }
 
 /// A number's value, where it is whole and its size is at most 2^64 - 1.
 ///
 /// The text is that of a JSON number.
 pub fn read_exact(text: &[u8]) -> Option<i128>
+    requires { (m : Numeral) × IsNumber text.now m }
+    ensures exact { IfSome result (λ n. IsExact text.now n) }
+    ensures within { IfSome result (λ n. unsigned_abs n < 2 ^ 64) }
+    ensures none { IfNone result ((n : ℤ) → IsExact text.now n → 2 ^ 64 ≤ unsigned_abs n) }
+{
+    let Some(short) = Short::of(text) else {
+        return any_exact(text);
+    };
+    let size = short.whole()?;
+    Some(i128::from(size))
+}
+
+/// The same by the way that serves every number, and is slower for a short one.
+#[inline(never)]
+fn any_exact(text: &[u8]) -> Option<i128>
     requires { (m : Numeral) × IsNumber text.now m }
     ensures exact { IfSome result (λ n. IsExact text.now n) }
     ensures within { IfSome result (λ n. unsigned_abs n < 2 ^ 64) }
@@ -87,6 +126,28 @@ mod tests {
         assert_eq!(rt; read_scaled(b"1e999999999", 0), Err(TimeRange));
         assert_eq!(rt; read_scaled(b"0e999999999", 0), Ok(0));
         assert_eq!(rt; read_scaled(b"1e-999999999", 0), Ok(0));
+    }
+
+    #[test]
+    fn reads_short_numbers(rt: HostRuntime) {
+        assert_eq!(rt; read_scaled(b"0", 6), Ok(0));
+        assert_eq!(rt; read_scaled(b"0.000001", 6), Ok(1));
+        assert_eq!(rt; read_scaled(b"12.3456785", 6), Ok(12_345_679));
+        assert_eq!(rt; read_scaled(b"0.9999994999999999", 6), Ok(999_999));
+        assert_eq!(rt;
+            read_scaled(b"1000000000000000.5", 0),
+            Ok(1_000_000_000_000_001)
+        );
+        assert_eq!(rt;
+            read_scaled(b"1000000000000000000", 0),
+            Ok(1_000_000_000_000_000_000)
+        );
+        assert_eq!(rt; read_scaled(b"99999999999999", 6), Err(TimeRange));
+        assert_eq!(rt;
+            read_exact(b"999999999999999999"),
+            Some(999_999_999_999_999_999)
+        );
+        assert_eq!(rt; read_exact(b"12.00"), Some(12));
     }
 
     #[test]
