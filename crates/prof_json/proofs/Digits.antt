@@ -1,19 +1,16 @@
 -- Runs of digits, of which the first is shown.
-use Rattle.std.proofs.Common.{◌≡◌, ℕ, zero, suc, ◌+◌, ◌-◌, ◌<◌, ◌≤◌, Bool, true, List, [], ◌∷◌, ◌++◌, length, take, drop, refl, sym, ap, ◌∙◌, subst, arith}
+use Rattle.std.proofs.Common.{◌≡◌, ℕ, zero, suc, ◌+◌, ◌-◌, ◌<◌, ◌≤◌, Bool, List, [], ◌∷◌, ◌++◌, length, take, drop, refl, sym, ap, ◌∙◌, subst, arith}
 use Rattle.std.specs.Prelude.{Option, Some, None}
 use Rattle.std.proofs.lemmas.List.{append_assoc}
 use Rattle.prof_grammar.specs.Machine.{Part, Stage, digits, class, step}
 use Rattle.prof_grammar.specs.Reading.{max_depth}
 use Rattle.prof_grammar.specs.Told.{depth}
-use Rattle.prof_time.specs.Numeral.{AreDigits}
 use Rattle.prof_json.specs.Ahead.{Ahead, IsNext, Passes}
-use Rattle.prof_json.specs.Bytes.{Each, none, more, is_digit}
+use Rattle.prof_json.specs.Bytes.{Each, more, is_digit}
 use Rattle.prof_json.specs.Goes.{Goes}
-use Rattle.prof_json.specs.Kept.{Kept, Gains}
 use Rattle.prof_json.specs.Stages.{IsRunning}
 use Rattle.prof_json.proofs.Machines.{goes_trans, goes_byte, goes_run}
 use Rattle.prof_json.proofs.Runs.{run_is}
-use Rattle.prof_json.proofs.Texts.{each_digits}
 use Rattle.prof_json.proofs.Turns.{digits_on}
 
 -- a run that isn't empty begins with the byte that is shown

@@ -1,4 +1,5 @@
 pub mod Windows
+pub mod Items
 pub mod Journeys
 pub mod Runs
 pub mod Utf8

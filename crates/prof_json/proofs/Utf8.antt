@@ -7,7 +7,7 @@ use Rattle.std.proofs.lemmas.Bool.Decides.{nat_tests}
 use Rattle.std.proofs.lemmas.Str.{IsUtf8-encode, IsUtf8-from_ascii}
 use Rattle.prof_json.specs.Bytes.{Each, none, more, is_digit, is_plain, second_low, second_high}
 
-each_ascii : {test : ℕ → Bool} {xs : List ℕ} → ((b : ℕ) → test b ≡ true → b < 128) → Each test xs → IsAscii xs
+pub each_ascii : {test : ℕ → Bool} {xs : List ℕ} → ((b : ℕ) → test b ≡ true → b < 128) → Each test xs → IsAscii xs
 each_ascii h none = λ i. omega arith
 each_ascii h (more {b} {bs} p a) = at (each_ascii h a)
   where

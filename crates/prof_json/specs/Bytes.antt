@@ -14,6 +14,10 @@ is_digit b = nat_le 48 b && nat_le b 57
 abbrev pub is_e : ℕ → Bool
 is_e b = (b == 101) || (b == 69)
 
+-- the byte may stand behind an item of an array
+abbrev pub follows_item : ℕ → Bool
+follows_item b = is_space b || (b == 44) || (b == 93)
+
 -- the least and the greatest byte that may stand behind this one in a character of three bytes or four (Unicode,
 -- table 3-7)
 abbrev pub second_low : ℕ → ℕ

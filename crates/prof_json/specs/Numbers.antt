@@ -29,3 +29,11 @@ pub record IsUnsigned (text : List ℕ) : Type 0 where
   pub begins : IsInt whole
   pub goes_on : IsFractionText fraction
   pub ends : IsExponentText exponent
+
+-- a number without a sign and without an exponent
+pub record IsPlain (text : List ℕ) : Type 0 where
+  pub whole : List ℕ
+  pub fraction : List ℕ
+  pub is : text ≡ whole ++ fraction
+  pub begins : IsInt whole
+  pub goes_on : IsFractionText fraction

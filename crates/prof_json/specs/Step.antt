@@ -1,7 +1,9 @@
 -- What reading one event gives.
-use Rattle.std.specs.Prelude.{◌≡◌, ◌≢◌, ◌<◌, ◌≤◌, List, [], ◌∷◌, ◌++◌, length, true, Some}
-use Rattle.prof_json.specs.Ahead.{Ahead}
-use Rattle.prof_json.specs.Kept.{Kept}
+use Rattle.std.specs.Prelude.{◌≡◌, ◌≢◌, ℕ, ◌+◌, ◌<◌, ◌≤◌, List, [], ◌∷◌, ◌++◌, length, take, true, Some}
+use Rattle.prof_json.specs.Ahead.{Ahead, IsNext, Passes}
+use Rattle.prof_json.specs.Bytes.{follows_item}
+use Rattle.prof_json.specs.Kept.{Kept, Gains}
+use Rattle.prof_json.specs.Numbers.{IsPlain}
 use Rattle.prof_json.specs.Nest.{Nest, Leads, phase_after}
 use Rattle.prof_json.specs.Position.{IsSound}
 use Rattle.prof_json.specs.declared.nesting.Bracket.{Bracket}
@@ -36,3 +38,14 @@ pub record IsStep (nest : Nest) (event : Event) (ys : List Bracket) (old new : A
   pub few : length ys ≤ 256
   pub further : event ≢ e.End → old.place < new.place
   pub keeps : Keeps event k m
+
+-- a comma and a plain number were passed, and this byte is shown behind them
+pub record ReadsItem (old : Ahead) (k : Kept) (new : Ahead) (m : Kept) : Type 0 where
+  pub text : List ℕ
+  pub plain : IsPlain text
+  pub ahead : take (length text + 1) old.bytes ≡ 44 ∷ text
+  pub passed : Passes (length text + 1) old new
+  pub kept : Gains k text m
+  pub shown : ℕ
+  pub next : IsNext shown new
+  pub follows : follows_item shown ≡ true

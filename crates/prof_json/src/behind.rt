@@ -1,6 +1,6 @@
 // What may stand behind a number.
 ghost use Rattle.std.specs.Prelude.{◌≡◌, ◌||◌, ◌==◌};
-ghost use Rattle.prof_json.specs.Bytes.{is_space};
+ghost use Rattle.prof_json.specs.Bytes.{follows_item, is_space};
 ghost use Rattle.prof_json.specs.Stages.{may_come};
 ghost use Rattle.prof_json.specs.Parts.{behind};
 
@@ -9,8 +9,8 @@ use crate::scan::is_blank;
 use crate::{Bracket, JsonFault};
 
 /// Whether the byte may stand behind an item.
-fn may_follow_item(byte: u8) -> bool
-    ensures { result ≡ (is_space byte || (byte == 44) || (byte == 93)) }
+pub fn may_follow_item(byte: u8) -> bool
+    ensures { result ≡ follows_item byte }
 {
     is_blank(byte) || byte == b',' || byte == b']'
 }

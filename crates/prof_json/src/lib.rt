@@ -9,6 +9,7 @@ mod input;
 pub mod laws;
 mod nesting;
 mod number;
+mod plain;
 mod reading;
 mod scan;
 mod steps;

@@ -1,5 +1,5 @@
 // The next event, by what may come.
-ghost use Rattle.std.specs.Prelude.{◌≡◌, ℕ, ◌<◌, ◌≤◌, List, [], ◌∷◌, ◌++◌, length, IfOk, OnOk, Ok};
+ghost use Rattle.std.specs.Prelude.{◌≡◌, ℕ, ◌<◌, ◌≤◌, List, [], ◌∷◌, ◌++◌, true, false, length, IfOk, IfErr, OnOk, Ok};
 ghost use Rattle.std.specs.Io.KnownBytes.{IsAtEnd};
 ghost use Rattle.prof_grammar.specs.Grammar.{value};
 ghost use Rattle.prof_grammar.specs.Machine.{Part, blank, symbol};
@@ -11,11 +11,12 @@ ghost use Rattle.prof_json.specs.Gives.{TakesName, told_by, parts_behind};
 ghost use Rattle.prof_json.specs.Kept.{Kept, Gains};
 ghost use Rattle.prof_json.specs.Nest.{Occurs, IsWithin};
 ghost use Rattle.prof_json.specs.Parts.{behind, parts_in};
-ghost use Rattle.prof_json.specs.Step.{BeginsValue, IsStep};
+ghost use Rattle.prof_json.specs.Step.{BeginsValue, IsStep, ReadsItem};
 ghost use Rattle.prof_json.specs.Moves.{Moves, lent, fault_of};
 
 use crate::buffer::Buffer;
 use crate::input::Input;
+use crate::plain::item_len;
 use crate::string::read_string;
 use crate::token::{need_behind_blank, pass_mark, skip_blank};
 use crate::value::begin_value;
@@ -166,8 +167,25 @@ fn read_member_value<S: Source>(
     read_value(input, src, brackets, text)
 }
 
-/// Behind an item of an array.
-fn read_next_item<S: Source>(
+/// Reads the next item of an array with the comma before it, where it is a plain number that lies whole within the window,
+/// and says whether it is one. Else nothing is read.
+fn read_plain_item(input: &mut Input, text: &mut Buffer) -> Result<bool, JsonFault>
+    ensures item { result ≡ Ok true → ReadsItem input.old text.old input.new text.new }
+    ensures none { result ≡ Ok false → (input.new ≡ input.old) × (text.new ≡ text.old) }
+    ensures err { IfErr result (λ fault. (fault ≡ JsonFault.NoMemory) × (input.new ≡ input.old)) }
+{
+    let ahead = input.ahead();
+    let len = item_len(ahead);
+    if len == 0 {
+        return Ok(false);
+    }
+    text.push(&ahead[1..len + 1])?;
+    input.pass(len + 1);
+    Ok(true)
+}
+
+/// Behind an item of an array, whatever comes.
+fn read_any_item<S: Source>(
     input: &mut Input,
     src: &mut S,
     brackets: &mut Vec<Bracket>,
@@ -192,6 +210,28 @@ fn read_next_item<S: Source>(
     }
     input.pass(1);
     read_value(input, src, brackets, text)
+}
+
+/// Behind an item of an array.
+fn read_next_item<S: Source>(
+    input: &mut Input,
+    src: &mut S,
+    brackets: &mut Vec<Bracket>,
+    text: &mut Buffer,
+) -> Result<Event, JsonFault>
+    requires within { IsWithin Bracket.Array brackets.old.items }
+    requires few { length brackets.old.items ≤ 256 }
+    ensures moves { Moves (fault_of result)
+        (S.sure src.old) input.old (lent (S.left src.old) (S.written src.old) (S.place src.old) (S.faults src.old))
+        (S.sure src.new) input.new (lent (S.left src.new) (S.written src.new) (S.place src.new) (S.faults src.new)) }
+    ensures ok { IfOk result (λ e. IsStep (record { open_ = brackets.old.items; phase = Phase.AfterValue }) e brackets.new.items input.old input.new text.old text.new) }
+    ensures exact { (begun : Kept) → Gains begun [] text.old →
+        Writes (fault_of result) begun input.old (S.left src.old) (parts_in Phase.AfterValue (behind brackets.old.items)) (told_by result) input.new (S.left src.new) text.new (λ t. parts_behind result brackets.new.items) }
+{
+    if read_plain_item(input, text)? {
+        return Ok(Event::Number);
+    }
+    read_any_item(input, src, brackets, text)
 }
 
 /// Behind a member of an object.

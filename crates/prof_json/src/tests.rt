@@ -184,6 +184,12 @@ fn numbers(rt: HostRuntime) -> Result<(), Fail> {
             (b"1.e", "wrong 2"),
             (b"1e+", "wrong 3"),
             (b"1e+x", "wrong 3"),
+            (b"[5,0,7.25,10 ,0.5]", "[ 5 0 7.25 10 0.5 ] end"),
+            (b"[5,2e3,-4]", "[ 5 2e3 -4 ] end"),
+            (b"[5,01]", "[ 5 wrong 4"),
+            (b"[5,1.]", "[ 5 wrong 5"),
+            (b"[5,6x", "[ 5 wrong 4"),
+            (b"[5,6}", "[ 5 wrong 4"),
         ],
     )
 }

@@ -1,5 +1,5 @@
-use Rattle.std.proofs.Common.{◌≡◌, ◌<◌, ℕ, List, [], ◌∷◌, take, sym, subst, arith}
-use Rattle.prof_json.specs.Bytes.{is_digit, Each}
+use Rattle.std.proofs.Common.{◌<◌, ℕ, List, ◌∷◌, subst}
+use Rattle.prof_json.specs.Bytes.{is_digit}
 use Rattle.prof_json.specs.Kept.{Gains}
 use Rattle.prof_json.specs.Writes.{silent}
 use Rattle.prof_grammar.specs.Machine.{digits}

@@ -1,4 +1,4 @@
-use Rattle.std.proofs.Common.{◌≡◌, [], ◌∷◌, ◌++◌, true, false, refl, arith}
+use Rattle.std.proofs.Common.{◌≡◌, [], ◌∷◌, true, false, refl, arith}
 use Rattle.std.specs.Prelude.{None}
 use Rattle.std.proofs.lemmas.Grind.{common_steps}
 use Rattle.prof_json.specs.Bytes.{is_digit}
