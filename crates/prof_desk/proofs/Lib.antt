@@ -1,4 +1,5 @@
 pub mod Parts
+pub mod Pages
 pub mod Quoting
 pub mod Fresh
 pub mod Rows

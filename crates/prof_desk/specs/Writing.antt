@@ -1,5 +1,5 @@
 -- How a text is written to a sink.
-use Rattle.std.specs.Prelude.{ℕ, List, length, OnOk, Result}
+use Rattle.std.specs.Prelude.{◌≡◌, ℕ, List, ◌++◌, length, OnOk, Result}
 use Rattle.std.specs.Io.KnownBytes.{Appends}
 use Rattle.std.specs.declared.option.Option.{Option}
 use Rattle.prof_io.specs.Causes.{HasCause}
@@ -12,3 +12,12 @@ pub record Writes {T E : Type 0} (old new : Option (List ℕ)) (room rest : Opti
   pub part : AppendsPart old new text
   pub fits : FitsRoom room rest result (length text)
   pub cause : HasCause before now result
+
+-- A text was added to what waits to be written: what waited before, and the text, are what was written, or was to be
+-- where that failed, and what waits now.
+pub record Gathers {T E : Type 0} (old new : Option (List ℕ)) (room rest : Option ℕ) (before now : ℕ) (result : Result T E) (waiting text waits : List ℕ) : Type 0 where
+  pub front : List ℕ
+  pub behind : List ℕ
+  pub split : waiting ++ text ≡ front ++ behind
+  pub written : Writes old new room rest before now result front
+  pub left : OnOk result (behind ≡ waits)

@@ -5,6 +5,7 @@ mod breaks;
 mod desk;
 mod lines;
 mod own;
+mod page;
 mod playing;
 mod quoted;
 mod reply;

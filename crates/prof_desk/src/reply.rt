@@ -6,9 +6,10 @@ ghost use Rattle.prof_desk.specs.Lines.{node_head, tree_head};
 ghost use Rattle.prof_desk.specs.Quoted.{quoted};
 ghost use Rattle.prof_desk.specs.Replies.{CanTell, HasFuncs, node_line, refusal_text, reply_bytes, tree_text, unit_text};
 ghost use Rattle.prof_desk.specs.Telling.{line};
-ghost use Rattle.prof_desk.specs.Writing.{Writes};
+ghost use Rattle.prof_desk.specs.Writing.{Gathers, Writes};
 
 use crate::lines::{Line, node_head, push_number, tree_head};
+use crate::page::{Page, add_line, write_page};
 use crate::quoted::{plain_len, write_quoted};
 use crate::telling::put;
 use arrayvec::ArrayString;
@@ -71,29 +72,36 @@ fn write_long_line<S: Sink>(out: &mut S, node: Node, name: &str) -> Result<(), O
     put(out, b"\n")
 }
 
-/// Writes a node's line, in one piece where it can be.
-fn write_node<S: Sink>(out: &mut S, thread: &Thread, node: Node) -> Result<(), OutFault>
+/// Adds a node's line to the page, or writes both, where the line is long.
+fn add_node<S: Sink>(
+    out: &mut S,
+    page: &mut Page,
+    thread: &Thread,
+    node: Node,
+) -> Result<(), OutFault>
     requires { node.func < length thread.now.shared.funcs + length thread.now.shared.resources }
-    ensures { Writes (S.written out.old) (S.written out.new) (S.room out.old) (S.room out.new) (S.faults out.old) (S.faults out.new)
-        result (node_line thread.now.shared node) }
+    ensures { Gathers (S.written out.old) (S.written out.new) (S.room out.old) (S.room out.new) (S.faults out.old) (S.faults out.new)
+        result page.old.bytes (node_line thread.now.shared node) page.new.bytes }
 {
     let name = thread.func_name(node.func);
-    match short_line(node, name) {
-        Some(line) => put(out, line.as_str().as_bytes()),
-        None => write_long_line(out, node, name),
+    if let Some(line) = short_line(node, name) {
+        return add_line(out, page, &line);
     }
+    write_page(out, page)?;
+    write_long_line(out, node, name)
 }
 
-/// Writes the lines of nodes.
+/// Writes the lines of nodes, many at once.
 fn write_nodes<S: Sink>(out: &mut S, thread: &Thread, nodes: &[Node]) -> Result<(), OutFault>
     requires { HasFuncs thread.now nodes.now }
     ensures { Writes (S.written out.old) (S.written out.new) (S.room out.old) (S.room out.new) (S.faults out.old) (S.faults out.new)
         result (flat_map (node_line thread.now.shared) nodes.now) }
 {
+    let mut page = ArrayString::new();
     for node in nodes {
-        write_node(out, thread, *node)?;
+        add_node(out, &mut page, thread, *node)?;
     }
-    Ok(())
+    write_page(out, &mut page)
 }
 
 /// The first line of a plain tree.

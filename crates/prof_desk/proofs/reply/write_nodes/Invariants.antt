@@ -1,11 +1,11 @@
--- The lines so far were written.
-use Rattle.std.proofs.Common.{take, Ok}
+-- The lines so far were written, but for what waits on the page.
+use Rattle.std.proofs.Common.{take, [], Ok}
 use Rattle.std.specs.List.{flat_map}
 use Rattle.prof_desk.specs.Replies.{node_line}
-use Rattle.prof_desk.specs.Writing.{Writes}
+use Rattle.prof_desk.specs.Writing.{Gathers}
 use Rattle.prof_desk.proofs.reply.write_nodes.Given as goal
 
 abbrev pub invariant-loop-node : goal.invariant-loop-node
 invariant-loop-node g l =
-    Writes {T = Unit {0}} {E = Unit {0}} (g.S.Counted.written l.fn.out) (g.S.Counted.written l.out) (g.S.Counted.room l.fn.out) (g.S.Counted.room l.out)
-    (g.S.Counted.faults l.fn.out) (g.S.Counted.faults l.out) (Ok tt) (flat_map (node_line l.thread.shared) (take l.node-index l.nodes))
+    Gathers {T = Unit {0}} {E = Unit {0}} (g.S.Counted.written l.fn.out) (g.S.Counted.written l.out) (g.S.Counted.room l.fn.out) (g.S.Counted.room l.out)
+    (g.S.Counted.faults l.fn.out) (g.S.Counted.faults l.out) (Ok tt) [] (flat_map (node_line l.thread.shared) (take l.node-index l.nodes)) l.page.bytes
