@@ -61,7 +61,10 @@ fn counted<L: Ledger, F: Files>(
     )
 }
 
-/// Runs the words over one file `p`, of which a read gives at most so many bytes.
+/// The most bytes that the output takes.
+const ROOM: usize = 262_144;
+
+/// Runs the words over one file `p`, of which a read gives at most so many bytes. A write takes at most 16.
 fn run_words(
     alloc: Global,
     words: &[&str],
@@ -79,7 +82,7 @@ fn run_words(
     name.push_str("p")?;
     let shelf = vec![in alloc; (name, text.to_vec(alloc)?)]?;
     let mut files = MemFiles::new(shelf, piece, vec![in alloc; failing.files]?);
-    let mut out = MemSink::new(alloc, 4096, 64, vec![in alloc; failing.out]?)?;
+    let mut out = MemSink::new(alloc, ROOM, 16, vec![in alloc; failing.out]?)?;
     let mut err = MemSink::new(alloc, 256, 64, vec![in alloc; failing.err]?)?;
     let status = counted::<Brand, MemFiles>(
         alloc,
@@ -128,6 +131,54 @@ fn trees_are_written(rt: HostRuntime) -> Result<(), Fail> {
             assert_eq!(rt; ran.status, Status::Done);
         }
     }
+    Ok(())
+}
+
+/// A profile whose stack rows, all of one function, stand each on the one before, with a sample on the last of them.
+fn chain(alloc: Global, rows: u32) -> Result<String, Fail> {
+    let mut text = String::new(alloc);
+    text.push_str(
+        "{\"meta\":{\"preprocessedProfileVersion\":47},\"threads\":[{\"stringArray\":[\"f\"],",
+    )?;
+    text.push_str(
+        "\"funcTable\":{\"name\":[0]},\"frameTable\":{\"func\":[0]},\"stackTable\":{\"frame\":[0",
+    )?;
+    for _ in 1..rows {
+        text.push_str(",0")?;
+    }
+    text.push_str("],\"prefix\":[null")?;
+    for row in 1..rows {
+        write!(text, ",{}", row - 1)?;
+    }
+    write!(
+        text,
+        "]}},\"samples\":{{\"stack\":[{}],\"time\":[0]}}}}]}}",
+        rows.saturating_sub(1)
+    )?;
+    Ok(text)
+}
+
+/// Longer than what is put together for one write.
+#[test]
+fn a_long_tree_is_written_whole(rt: HostRuntime) -> Result<(), Fail> {
+    let alloc = rt.alloc();
+    let mut tree = String::new(alloc);
+    tree.push_str("ok 0\ntree plain unit samples nodes 5000 selected 1 dropped 0\n")?;
+    for depth in 0..4999 {
+        write!(tree, "{depth} 1 0 0 0 \"f\"\n")?;
+    }
+    tree.push_str("4999 1 1 0 0 \"f\"\n")?;
+    let text = chain(alloc, 5000)?;
+    let ran = run_words(
+        alloc,
+        &["tree", "p"],
+        text.as_str().as_bytes(),
+        65536,
+        NOTHING,
+    )?;
+    assert_eq!(rt; ran.err.bytes(), "".as_bytes());
+    assert!(rt; ran.out.bytes() == tree.as_str().as_bytes());
+    assert_eq!(rt; ran.status, Status::Done);
     Ok(())
 }
 
