@@ -14,6 +14,8 @@ pub mod Known
 pub mod Adding
 pub mod Alike
 pub mod Masses
+pub mod Standing
 pub mod Lifting
+pub mod Gathering
 pub mod Sampled
 pub mod RowByRow

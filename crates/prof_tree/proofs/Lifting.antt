@@ -1,210 +1,246 @@
 -- Weights of rows, added to those of the rows that they stand on
-use Rattle.std.proofs.Common.{◌≡◌, ◌≢◌, ℕ, zero, suc, ◌+◌, ◌-◌, ◌<◌, ◌≤◌, ℤ, pos, ◌+ℤ◌, true, false, eqb, List, [], ◌∷◌, ◌++◌, length, take, get_or, set, get_or-set_same, get_or-set_other, length-set, Option, Some, None, ◌⊎◌, inl, inr, sym, ap, ◌∙◌, subst, refl, length-take-le, arith}
-use Rattle.std.specs.Prelude.{unsigned_abs, unwrap_or}
-use Rattle.std.specs.Option.{IfSome, option_map_or}
+use Rattle.std.proofs.Common.{◌≡◌, ℕ, zero, suc, ◌+◌, ◌<◌, ◌≤◌, ℤ, ◌+ℤ◌, Bool, true, false, cond, List, [], ◌∷◌, ◌++◌, length, take, get_or, set, get_or-set_other, length-set, length-take-le, Option, Some, None, inl, inr, sym, ap, ◌∙◌, subst, refl, arith}
+use Rattle.std.specs.Option.{IfSome}
+use Rattle.std.proofs.lemmas.Bool.{cases_eq}
+use Rattle.std.proofs.lemmas.Int.{ints}
+use Rattle.std.proofs.lemmas.List.{get_or-take}
 use Rattle.std.proofs.Math.Seq.{take-set-lt}
-use Rattle.std.proofs.lemmas.Option.{slice_get-get_or}
-use Rattle.std.proofs.lemmas.Bool.{false≢true}
 use Rattle.prof_tables.specs.declared.rows.StackRow.{StackRow}
-use Rattle.prof_tables.specs.declared.rows.Step.{Step}
 use Rattle.prof_tables.specs.Paths.{PrefixesBelow}
-use Rattle.prof_tree.specs.Nodes.{Weighed}
-use Rattle.prof_tree.specs.Weighing.{AreAlike, held, lifted, lifted_last, mass, no_row, prefix_of, weight_at, with_more}
-use Rattle.prof_tree.proofs.PathSteps.{same_number, number_same}
-use Rattle.prof_tree.proofs.Alike.{alike_on, alike_moved, alike_empty, held_more, held-snoc}
-use Rattle.prof_tree.proofs.Masses.{mass-more, mass-take, mass_within, weight_at-take}
+use Rattle.prof_tree.specs.Weighing.{joined, mass, prefix_of, stands_on, weight_of, weight_through}
+use Rattle.prof_tree.proofs.Masses.{size-add}
+use Rattle.prof_tree.proofs.Standing.{below_at, stands_before, stands_further, stands_prefix, stands_root, stands_same}
 
-pub below_at : (stacks : List StackRow) → PrefixesBelow stacks → (row prefix : ℕ) → row < length stacks → prefix_of stacks row ≡ Some prefix → prefix < row
-below_at stacks below row prefix h e = subst (λ o. IfSome o (λ p. p < row)) e (below row (get_or stacks row no_row) (slice_get-get_or stacks row no_row h))
+-- weights together
+joined-none : (o : Option ℤ) → joined o None ≡ o
+joined-none None = refl
+joined-none (Some v) = refl
 
--- what is lifted of a row, by its weight and its prefix
-pub lift_both : (stacks : List StackRow) (ws : List (Option ℤ)) (row prefix : ℕ) (w : ℤ) → get_or ws row None ≡ Some w → prefix_of stacks row ≡ Some prefix → lifted stacks ws row ≡ with_more ws prefix w
-lift_both stacks ws row prefix w e f =
-    ap (λ o. option_map_or (λ weight. option_map_or (λ prefix. with_more ws prefix weight) (prefix_of stacks row) ws) o ws) e
-    ∙ ap (λ o. option_map_or (λ prefix. with_more ws prefix w) o ws) f
+joined-order : (o p q : Option ℤ) → joined (joined o p) q ≡ joined o (joined p q)
+joined-order None p q = refl
+joined-order (Some v) None q = refl
+joined-order (Some v) (Some w) None = refl
+joined-order (Some v) (Some w) (Some x) = ap (λ z. Some z) (let e : (v +ℤ w) +ℤ x ≡ v +ℤ (w +ℤ x) = omega (arith, ints) in e)
 
-pub lift_root : (stacks : List StackRow) (ws : List (Option ℤ)) (row : ℕ) → prefix_of stacks row ≡ None → lifted stacks ws row ≡ ws
-lift_root stacks ws row f = by (get_or ws row None)
-  where
-    by : (o : Option ℤ) → option_map_or (λ weight. option_map_or (λ prefix. with_more ws prefix weight) (prefix_of stacks row) ws) o ws ≡ ws
-    by None = refl
-    by (Some w) = ap (λ o. option_map_or (λ prefix. with_more ws prefix w) o ws) f
+joined-swap : (o p : Option ℤ) → joined o p ≡ joined p o
+joined-swap None p = sym (joined-none p)
+joined-swap (Some v) None = refl
+joined-swap (Some v) (Some w) = ap (λ z. Some z) (let e : v +ℤ w ≡ w +ℤ v = omega (arith, ints) in e)
 
-pub lift_nothing : (stacks : List StackRow) (ws : List (Option ℤ)) (row : ℕ) → get_or ws row None ≡ None → lifted stacks ws row ≡ ws
-lift_nothing stacks ws row e = ap (λ o. option_map_or (λ weight. option_map_or (λ prefix. with_more ws prefix weight) (prefix_of stacks row) ws) o ws) e
+-- the last but one as the last
+joined-last : (o p q : Option ℤ) → joined (joined o p) q ≡ joined (joined o q) p
+joined-last o p q = joined-order o p q ∙ ap (joined o) (joined-swap p q) ∙ sym (joined-order o q p)
 
--- a row has a weight and a prefix, or nothing is lifted of it
-pub lift_cases : (stacks : List StackRow) (ws : List (Option ℤ)) (row : ℕ)
-    → ((w : ℤ) × (prefix : ℕ) × (get_or ws row None ≡ Some w) × (prefix_of stacks row ≡ Some prefix)) ⊎ (lifted stacks ws row ≡ ws)
-lift_cases stacks ws row =
-    elim (get_or ws row None) as (λ o. get_or ws row None ≡ o → ((w : ℤ) × (prefix : ℕ) × (get_or ws row None ≡ Some w) × (prefix_of stacks row ≡ Some prefix)) ⊎ (lifted stacks ws row ≡ ws)) [
-      | None ↦ λ e. inr (lift_nothing stacks ws row e)
-      | Some w ↦ λ e. elim (prefix_of stacks row) as (λ o. prefix_of stacks row ≡ o → ((w : ℤ) × (prefix : ℕ) × (get_or ws row None ≡ Some w) × (prefix_of stacks row ≡ Some prefix)) ⊎ (lifted stacks ws row ≡ ws)) [
-        | None ↦ λ f. inr (lift_root stacks ws row f)
-        | Some prefix ↦ λ f. inl (w, prefix, e, f)
-      ] refl
-    ] refl
+abbrev pub size : Option ℤ → ℕ
+size o = mass (o ∷ [])
 
-length-lifted : (stacks : List StackRow) (ws : List (Option ℤ)) (row : ℕ) → length (lifted stacks ws row) ≡ length ws
-length-lifted stacks ws row =
-    elim (lift_cases stacks ws row) [
-      | inl c ↦ ap length (lift_both stacks ws row c.1 c.0 c.2 c.3) ∙ length-set ws c.1 (Some (weight_at ws c.1 +ℤ c.0))
-      | inr e ↦ ap length e
-    ]
+pub size-joined : (o p : Option ℤ) → size (joined o p) ≤ size o + size p
+size-joined None p = omega arith
+size-joined (Some v) None = omega arith
+size-joined (Some v) (Some w) = omega (arith, size-add v w)
 
-pub length-lifted_last : (stacks : List StackRow) (ws : List (Option ℤ)) (n : ℕ) → length (lifted_last stacks ws n) ≡ length ws
-length-lifted_last stacks ws zero = refl
-length-lifted_last stacks ws (suc n) = length-lifted stacks (lifted_last stacks ws n) (length stacks - suc n) ∙ length-lifted_last stacks ws n
+pub mass-first : (o : Option ℤ) (ws : List (Option ℤ)) → mass (o ∷ ws) ≡ size o + mass ws
+mass-first None ws = omega arith
+mass-first (Some v) ws = omega arith
 
--- the front of the weights, where a weight within it has more
-take-more : (ws : List (Option ℤ)) (n row : ℕ) (w : ℤ) → row < n → take n (with_more ws row w) ≡ with_more (take n ws) row w
-take-more ws n row w h = take-set-lt n ws row (Some (weight_at ws row +ℤ w)) h ∙ ap (λ v. set (take n ws) row (Some (v +ℤ w))) (sym (weight_at-take ws n row h))
+mass-snoc : (ws : List (Option ℤ)) (o : Option ℤ) → mass (ws ++ o ∷ []) ≡ mass ws + size o
+mass-snoc [] o = omega arith
+mass-snoc (None ∷ ws) o = mass-snoc ws o
+mass-snoc (Some v ∷ ws) o = omega (arith, mass-snoc ws o)
 
--- the path of a row's prefix
-abbrev pub path_above : (ℕ → List Step) → Option ℕ → List Step
-path_above path_at None = []
-path_above path_at (Some prefix) = path_at prefix
+-- the weights once a row has more
+abbrev pub with_joined : List (Option ℤ) → ℕ → Option ℤ → List (Option ℤ)
+with_joined ws row o = set ws row (joined (get_or ws row None) o)
+
+mass-joined : (ws : List (Option ℤ)) (row : ℕ) (o : Option ℤ) → row < length ws → mass (with_joined ws row o) ≤ mass ws + size o
+mass-joined [] row o h = absurd (omega arith)
+mass-joined (v ∷ ws) zero o h = omega (arith, mass-first v ws, mass-first (joined v o) ws, size-joined v o)
+mass-joined (v ∷ ws) (suc row) o h = omega (arith, mass-first v ws, mass-first v (with_joined ws row o), mass-joined ws row o (omega arith))
+
+-- the weights of the rows that pass a test
+module _ (test : ℕ → Bool) where
+  abbrev part : ℕ → Option ℤ → Option ℤ
+  part row o = cond (test row) o None
+
+  part-joined : (row : ℕ) (o p : Option ℤ) → part row (joined o p) ≡ joined (part row o) (part row p)
+  part-joined row o p = by (test row)
+    where
+      by : (b : Bool) → cond b (joined o p) None ≡ joined (cond b o None) (cond b p None)
+      by true = refl
+      by false = refl
+
+  weight_of-snoc : (first : ℕ) (ws : List (Option ℤ)) (o : Option ℤ) → weight_of test first (ws ++ o ∷ []) ≡ joined (weight_of test first ws) (part (first + length ws) o)
+  weight_of-snoc first [] o = joined-none (part first o) ∙ ap (λ n. part n o) (let e : first ≡ first + 0 = omega arith in e)
+  weight_of-snoc first (v ∷ ws) o =
+      ap (joined (part first v)) (weight_of-snoc (suc first) ws o ∙ ap (λ n. joined (weight_of test (suc first) ws) (part n o)) (let e : suc first + length ws ≡ first + suc (length ws) = omega arith in e))
+      ∙ sym (joined-order (part first v) (weight_of test (suc first) ws) (part (first + suc (length ws)) o))
+
+  weight_of-joined : (first : ℕ) (ws : List (Option ℤ)) (row : ℕ) (o : Option ℤ) → row < length ws → weight_of test first (with_joined ws row o) ≡ joined (weight_of test first ws) (part (first + row) o)
+  weight_of-joined first [] row o h = absurd (omega arith)
+  weight_of-joined first (v ∷ ws) zero o h =
+      ap (λ p. joined p (weight_of test (suc first) ws)) (part-joined first v o)
+      ∙ joined-last (part first v) (part first o) (weight_of test (suc first) ws)
+      ∙ ap (λ n. joined (joined (part first v) (weight_of test (suc first) ws)) (part n o)) (let e : first ≡ first + 0 = omega arith in e)
+  weight_of-joined first (v ∷ ws) (suc row) o h =
+      ap (joined (part first v)) (weight_of-joined (suc first) ws row o (omega arith) ∙ ap (λ n. joined (weight_of test (suc first) ws) (part n o)) (let e : suc first + row ≡ first + suc row = omega arith in e))
+      ∙ sym (joined-order (part first v) (weight_of test (suc first) ws) (part (first + suc row) o))
+
+  -- where no row passes there is no weight
+  weight_of-none : (first : ℕ) (ws : List (Option ℤ)) → ((row : ℕ) → first ≤ row → row < first + length ws → test row ≡ false) → weight_of test first ws ≡ None
+  weight_of-none first [] h = refl
+  weight_of-none first (v ∷ ws) h =
+      ap (λ b. joined (cond b v None) (weight_of test (suc first) ws)) (h first (omega arith) (omega arith))
+      ∙ weight_of-none (suc first) ws (λ row k l. h row (omega arith) (omega arith))
+
+  -- where a row passes that has a weight there is one
+  pub weight_of-some : (first : ℕ) (ws : List (Option ℤ)) (row : ℕ) (w : ℤ) → get_or ws row None ≡ Some w → test (first + row) ≡ true → (v : ℤ) × (weight_of test first ws ≡ Some v)
+  weight_of-some first [] row w e t = cc
+  weight_of-some first (o ∷ ws) zero w e t = by (weight_of test (suc first) ws) refl
+    where
+      here : part first o ≡ Some w
+      here = ap (λ b. cond b o None) (subst (λ n. test n ≡ true) (let k : first + 0 ≡ first = omega arith in k) t) ∙ e
+
+      by : (rest : Option ℤ) → weight_of test (suc first) ws ≡ rest → (v : ℤ) × (joined (part first o) (weight_of test (suc first) ws) ≡ Some v)
+      by None k = (w, ap (λ p. joined p (weight_of test (suc first) ws)) here ∙ ap (joined (Some w)) k)
+      by (Some x) k = (w +ℤ x, ap (λ p. joined p (weight_of test (suc first) ws)) here ∙ ap (joined (Some w)) k)
+  weight_of-some first (o ∷ ws) (suc row) w e t =
+      let rest = weight_of-some (suc first) ws row w e (subst (λ n. test n ≡ true) (let k : first + suc row ≡ suc first + row = omega arith in k) t) in
+      by (part first o) rest.0 rest.1
+    where
+      by : (p : Option ℤ) (x : ℤ) → weight_of test (suc first) ws ≡ Some x → (v : ℤ) × (joined p (weight_of test (suc first) ws) ≡ Some v)
+      by None x k = (x, k)
+      by (Some y) x k = (y +ℤ x, ap (joined (Some y)) k)
+
+  -- and where there is one some row passes that has one
+  pub weight_of-found : (first : ℕ) (ws : List (Option ℤ)) (w : ℤ) → weight_of test first ws ≡ Some w
+      → (row : ℕ) × (v : ℤ) × (row < length ws) × (get_or ws row None ≡ Some v) × (test (first + row) ≡ true)
+  weight_of-found first [] w e = cc
+  weight_of-found first (o ∷ ws) w e = by (test first) refl o refl (λ k. weight_of-found (suc first) ws w k)
+    where
+      Found : Type 0
+      Found = (row : ℕ) × (v : ℤ) × (row < length (o ∷ ws)) × (get_or (o ∷ ws) row None ≡ Some v) × (test (first + row) ≡ true)
+
+      Later : Type 0
+      Later = weight_of test (suc first) ws ≡ Some w → (row : ℕ) × (v : ℤ) × (row < length ws) × (get_or ws row None ≡ Some v) × (test (suc first + row) ≡ true)
+
+      later : Later → weight_of test (suc first) ws ≡ Some w → Found
+      later rest k =
+          let f = rest k in
+          (suc f.0, f.1, (let h = f.2 in omega arith), f.3, subst (λ n. test n ≡ true) (let k : suc first + f.0 ≡ first + suc f.0 = omega arith in k) f.4)
+
+      by : (b : Bool) → test first ≡ b → (p : Option ℤ) → o ≡ p → Later → Found
+      by true t (Some v) k rest = (zero, v, (omega arith), k, subst (λ n. test n ≡ true) (let k : first ≡ first + 0 = omega arith in k) t)
+      by true t None k rest = later rest (ap (λ b. joined b (weight_of test (suc first) ws)) (sym (ap (λ b. cond b o None) t ∙ k)) ∙ e)
+      by false t p k rest = later rest (ap (λ b. joined b (weight_of test (suc first) ws)) (sym (ap (λ b. cond b o None) t)) ∙ e)
 
 pub take_next : (ws : List (Option ℤ)) (row : ℕ) (o : Option ℤ) → row < length ws → get_or ws row None ≡ o → take (suc row) ws ≡ take row ws ++ o ∷ []
 take_next [] row o h e = absurd (omega arith)
 take_next (v ∷ ws) zero o h e = ap (λ x. x ∷ []) e
 take_next (v ∷ ws) (suc row) o h e = ap (λ l. v ∷ l) (take_next ws row o (omega arith) e)
 
-module _ (stacks : List StackRow) (below : PrefixesBelow stacks) where
-  -- the weights before a row are no heavier together, once its own is lifted, than they were with its own
-  lifted-mass : (ws : List (Option ℤ)) (row : ℕ) → row < length stacks → length ws ≡ length stacks → mass (take row (lifted stacks ws row)) ≤ mass (take (suc row) ws)
-  lifted-mass ws row h n =
-      let whole : mass (take (suc row) ws) ≡ mass (take row ws) + unsigned_abs (weight_at ws row) = mass-take ws row (omega arith) in
-      elim (lift_cases stacks ws row) [
-        | inl c ↦
-            let before : c.1 < row = below_at stacks below row c.1 h c.3 in
-            let front : take row (lifted stacks ws row) ≡ with_more (take row ws) c.1 c.0 = ap (take row) (lift_both stacks ws row c.1 c.0 c.2 c.3) ∙ take-more ws row c.1 c.0 before in
-            let inside : c.1 < length (take row ws) = omega (arith, length-take-le row ws (omega arith)) in
-            let size : unsigned_abs (weight_at ws row) ≡ unsigned_abs c.0 = ap (λ o. unsigned_abs (unwrap_or o (pos 0))) c.2 in
-            omega (arith, ap mass front, mass-more (take row ws) c.1 c.0 inside, whole, size)
-        | inr e ↦ omega (arith, ap (λ l. mass (take row l)) e, whole)
-      ]
+take-joined : (ws : List (Option ℤ)) (n row : ℕ) (o : Option ℤ) → row < n → take n (with_joined ws row o) ≡ with_joined (take n ws) row o
+take-joined ws n row o h = take-set-lt n ws row (joined (get_or ws row None) o) h ∙ ap (λ v. set (take n ws) row (joined v o)) (sym (get_or-take n ws row None h))
 
-  pub lifted_last-mass : (ws : List (Option ℤ)) (n : ℕ) → n ≤ length stacks → length ws ≡ length stacks → mass (take (length stacks - n) (lifted_last stacks ws n)) ≤ mass ws
-  lifted_last-mass ws zero h k = mass_within ws (length stacks - 0)
-  lifted_last-mass ws (suc n) h k =
-      let row = length stacks - suc n in
-      let next : length stacks - n ≡ suc row = omega arith in
-      let so_far : mass (take (length stacks - n) (lifted_last stacks ws n)) ≤ mass ws = lifted_last-mass ws n (omega arith) k in
-      let step : mass (take row (lifted stacks (lifted_last stacks ws n) row)) ≤ mass (take (suc row) (lifted_last stacks ws n)) = lifted-mass (lifted_last stacks ws n) row (omega arith) (length-lifted_last stacks ws n ∙ k) in
-      omega (arith, step, so_far, ap (λ m. mass (take m (lifted_last stacks ws n))) next)
+-- the weights as far as the rows from n on are lifted: these have what goes through them, and by the weights of the rows
+-- before them the same goes through each of those as ever
+pub record AreLifted (stacks : List StackRow) (own : List (Option ℤ)) (n : ℕ) (ws : List (Option ℤ)) : Type 0 where
+  pub len : length ws ≡ length stacks
+  pub light : mass (take n ws) ≤ mass own
+  pub ahead : (base : ℕ) → base < n → weight_through stacks (take n ws) base ≡ weight_through stacks own base
+  pub lifted : (row : ℕ) → n ≤ row → row < length stacks → get_or ws row None ≡ weight_through stacks own row
 
-  -- a row's weight stays once the rows behind it were lifted
-  lifted-kept : (ws : List (Option ℤ)) (row at : ℕ) → row < length stacks → row ≤ at → get_or (lifted stacks ws row) at None ≡ get_or ws at None
-  lifted-kept ws row at h k =
-      elim (lift_cases stacks ws row) [
-        | inl c ↦
-            let before : c.1 < row = below_at stacks below row c.1 h c.3 in
-            let apart : at ≢ c.1 = λ e. absurd (omega (arith, e)) in
-            ap (λ l. get_or l at None) (lift_both stacks ws row c.1 c.0 c.2 c.3) ∙ get_or-set_other ws c.1 at (Some (weight_at ws c.1 +ℤ c.0)) None apart
-        | inr e ↦ ap (λ l. get_or l at None) e
-      ]
+module _ (stacks : List StackRow) (below : PrefixesBelow stacks) (own : List (Option ℤ)) (row : ℕ) (inside : row < length stacks) (ws : List (Option ℤ)) (s : AreLifted stacks own (suc row) ws) where
+  abbrev here : Option ℤ
+  here = get_or ws row None
 
-  pub lifted_last-kept : (ws : List (Option ℤ)) (row more : ℕ) → row < length stacks → more ≤ suc row → get_or (lifted_last stacks ws (more + (length stacks - suc row))) row None ≡ get_or (lifted_last stacks ws (length stacks - suc row)) row None
-  lifted_last-kept ws row zero h k = ap (λ n. get_or (lifted_last stacks ws n) row None) (let e : 0 + (length stacks - suc row) ≡ length stacks - suc row = omega arith in e)
-  lifted_last-kept ws row (suc more) h k =
-      let n = more + (length stacks - suc row) in
-      ap (λ n. get_or (lifted_last stacks ws n) row None) (let e : suc more + (length stacks - suc row) ≡ suc n = omega arith in e)
-      ∙ lifted-kept (lifted_last stacks ws n) (length stacks - suc n) row (omega arith) (omega arith)
-      ∙ lifted_last-kept ws row more h (omega arith)
+  abbrev front : List (Option ℤ)
+  front = take row ws
 
-  -- a row that has a weight keeps having one
-  lifted-some : (ws : List (Option ℤ)) (row at : ℕ) (w : ℤ) → get_or ws at None ≡ Some w → (v : ℤ) × (get_or (lifted stacks ws row) at None ≡ Some v)
-  lifted-some ws row at w e =
-      elim (lift_cases stacks ws row) [
-        | inl c ↦ (let f = ap (λ l. get_or l at None) (lift_both stacks ws row c.1 c.0 c.2 c.3) in
-            elim (eqb at c.1) as (λ b. eqb at c.1 ≡ b → (v : ℤ) × (get_or (lifted stacks ws row) at None ≡ Some v)) [
-              | true ↦ λ k. (let same : at ≡ c.1 = same_number at c.1 k in
-                  (weight_at ws c.1 +ℤ c.0, f ∙ ap (λ n. get_or (with_more ws c.1 c.0) n None) same ∙ get_or-set_same ws c.1 (Some (weight_at ws c.1 +ℤ c.0)) None (subst (λ n. n < length ws) same (some_within ws at w e))))
-              | false ↦ λ k. (w, f ∙ get_or-set_other ws c.1 at (Some (weight_at ws c.1 +ℤ c.0)) None (λ s. false≢true (sym k ∙ number_same at c.1 s)) ∙ e)
-            ] refl)
-        | inr f ↦ (w, ap (λ l. get_or l at None) f ∙ e)
-      ]
+  front-len : length front ≡ row
+  front-len = length-take-le row ws (omega (arith, s.len))
+
+  next : take (suc row) ws ≡ front ++ here ∷ []
+  next = take_next ws row here (omega (arith, s.len)) refl
+
+  -- of the rows up to this one
+  with_here : (base : ℕ) → weight_through stacks (take (suc row) ws) base ≡ joined (weight_through stacks front base) (part (λ r. stands_on stacks r base) row here)
+  with_here base =
+      ap (λ l. weight_through stacks l base) next ∙ weight_of-snoc (λ r. stands_on stacks r base) 0 front here
+      ∙ ap (λ n. joined (weight_through stacks front base) (part (λ r. stands_on stacks r base) n here)) (let e : 0 + length front ≡ row = omega (arith, front-len) in e)
+
+  -- what goes through the row stands on it by now
+  here_is : here ≡ weight_through stacks own row
+  here_is =
+      sym (sym (s.ahead row (omega arith)) ∙ with_here row
+      ∙ ap (λ o. joined o (part (λ r. stands_on stacks r row) row here)) (weight_of-none (λ r. stands_on stacks r row) 0 front (λ r h k. stands_before stacks below r row (omega (arith, front-len)) (omega arith)))
+      ∙ ap (λ b. cond b here None) (stands_same stacks below row inside))
+
+  whole : mass (take (suc row) ws) ≡ mass front + size here
+  whole = ap mass next ∙ mass-snoc front here
+
+  stays : (r : ℕ) → row ≤ r → r < length stacks → get_or ws r None ≡ weight_through stacks own r
+  stays r h k = elim (cases_eq row r) [
+    | inl same ↦ subst (λ r. get_or ws r None ≡ weight_through stacks own r) same here_is
+    | inr apart ↦ s.lifted r (omega (arith, apart)) k
+  ]
+
+  -- a row without a prefix
+  pub lifted_root : prefix_of stacks row ≡ None → AreLifted stacks own row ws
+  lifted_root e = record {
+    len = s.len;
+    light = omega (arith, s.light, whole);
+    ahead = λ base h.
+        sym (with_here base ∙ ap (λ b. joined (weight_through stacks front base) (cond b here None)) (stands_root stacks below row base inside (λ same. absurd (omega (arith, same))) e) ∙ joined-none (weight_through stacks front base))
+        ∙ s.ahead base (omega arith);
+    lifted = stays;
+  }
+
+  -- one with a prefix, which has its weight too then
+  module _ (prefix : ℕ) (is : prefix_of stacks row ≡ Some prefix) where
+    less : prefix < row
+    less = below_at stacks below row prefix inside is
+
+    new_front : take row (with_joined ws prefix here) ≡ with_joined front prefix here
+    new_front = take-joined ws row prefix here less
+
+    in_front : prefix < length front
+    in_front = omega (arith, less, front-len)
+
+    kept : (r : ℕ) → row ≤ r → get_or (with_joined ws prefix here) r None ≡ get_or ws r None
+    kept r h = get_or-set_other ws prefix r (joined (get_or ws prefix None) here) None (λ e. absurd (omega (arith, e, less)))
+
+    pub lifted_prefix : AreLifted stacks own row (with_joined ws prefix here)
+    lifted_prefix = record {
+      len = length-set ws prefix (joined (get_or ws prefix None) here) ∙ s.len;
+      light = omega (arith, s.light, whole, ap mass new_front, mass-joined front prefix here in_front);
+      ahead = λ base h.
+          ap (λ l. weight_through stacks l base) new_front ∙ weight_of-joined (λ r. stands_on stacks r base) 0 front prefix here in_front
+          ∙ ap (λ n. joined (weight_through stacks front base) (cond (stands_on stacks n base) here None)) (let e : 0 + prefix ≡ prefix = omega arith in e)
+          ∙ sym (with_here base ∙ ap (λ b. joined (weight_through stacks front base) (cond b here None)) (stands_prefix stacks below row prefix base inside (λ same. absurd (omega (arith, same))) is))
+          ∙ s.ahead base (omega arith);
+      lifted = λ r h k. kept r h ∙ stays r h k;
+    }
+
+  -- what the loop does at a row
+  pub lifted_next : (ws' : List (Option ℤ)) → (prefix_of stacks row ≡ None → ws' ≡ ws) → IfSome (prefix_of stacks row) (λ prefix. ws' ≡ with_joined ws prefix here) → AreLifted stacks own row ws'
+  lifted_next ws' root above = by (prefix_of stacks row) refl
     where
-      some_within : (ws : List (Option ℤ)) (at : ℕ) (w : ℤ) → get_or ws at None ≡ Some w → at < length ws
-      some_within [] at w e = cc
-      some_within (o ∷ ws) zero w e = omega arith
-      some_within (o ∷ ws) (suc at) w e = omega (arith, some_within ws at w e)
+      by : (o : Option ℕ) → prefix_of stacks row ≡ o → AreLifted stacks own row ws'
+      by None e = subst (AreLifted stacks own row) (sym (root e)) (lifted_root e)
+      by (Some prefix) e = subst (AreLifted stacks own row) (sym (subst (λ o. IfSome o (λ prefix. ws' ≡ with_joined ws prefix here)) e above)) (lifted_prefix prefix e)
 
-  pub lifted_last-some : (ws : List (Option ℤ)) (n more at : ℕ) (w : ℤ) → get_or (lifted_last stacks ws n) at None ≡ Some w → (v : ℤ) × (get_or (lifted_last stacks ws (more + n)) at None ≡ Some v)
-  lifted_last-some ws n zero at w e = (w, ap (λ k. get_or (lifted_last stacks ws k) at None) (let z : 0 + n ≡ n = omega arith in z) ∙ e)
-  lifted_last-some ws n (suc more) at w e =
-      let k = lifted_last-some ws n more at w e in
-      let l = lifted-some (lifted_last stacks ws (more + n)) (length stacks - suc (more + n)) at k.0 k.1 in
-      (l.0, ap (λ m. get_or (lifted_last stacks ws m) at None) (let z : suc more + n ≡ suc (more + n) = omega arith in z) ∙ l.1)
+-- what goes through a row goes through its prefix, and what stands on it goes through it
+module _ (stacks : List StackRow) (below : PrefixesBelow stacks) (own : List (Option ℤ)) (len : length own ≡ length stacks) where
+  at_row : (row base : ℕ) → stands_on stacks row base ≡ true → stands_on stacks (0 + row) base ≡ true
+  at_row row base h = subst (λ n. stands_on stacks n base ≡ true) (let e : row ≡ 0 + row = omega arith in e) h
 
-  -- before a row is lifted and after: its weight is that of one more path that ends at its prefix
-  module _ (own : List (Option ℤ)) (row : ℕ) (inside : row < length stacks) (len : length own ≡ length stacks) where
-    abbrev pub before : List (Option ℤ)
-    before = lifted_last stacks own (length stacks - suc row)
+  from_row : (row base : ℕ) → stands_on stacks (0 + row) base ≡ true → stands_on stacks row base ≡ true
+  from_row row base h = subst (λ n. stands_on stacks n base ≡ true) (let e : 0 + row ≡ row = omega arith in e) h
 
-    abbrev pub after : List (Option ℤ)
-    after = lifted_last stacks own (length stacks - row)
+  pub prefix_found : (row prefix : ℕ) (w : ℤ) → row < length stacks → weight_through stacks own row ≡ Some w → prefix_of stacks row ≡ Some prefix → (v : ℤ) × (weight_through stacks own prefix ≡ Some v)
+  prefix_found row prefix w h e is =
+      let f = weight_of-found (λ r. stands_on stacks r row) 0 own w e in
+      weight_of-some (λ r. stands_on stacks r prefix) 0 own f.0 f.1 f.3 (at_row f.0 prefix (stands_further stacks below f.0 row prefix (let k = f.2 in omega (arith, len)) h is (from_row f.0 row f.4)))
 
-    pub after_is : after ≡ lifted stacks before row
-    after_is =
-        let one : length stacks - row ≡ suc (length stacks - suc row) = omega arith in
-        let at : length stacks - suc (length stacks - suc row) ≡ row = omega arith in
-        ap (lifted_last stacks own) one ∙ ap (lifted stacks before) at
-
-    pub before-len : length before ≡ length stacks
-    before-len = length-lifted_last stacks own (length stacks - suc row) ∙ len
-
-    -- what the row has at last
-    pub at_last_is : get_or (lifted_last stacks own (length stacks)) row None ≡ get_or before row None
-    at_last_is =
-        ap (λ n. get_or (lifted_last stacks own n) row None) (let e : length stacks ≡ suc row + (length stacks - suc row) = omega arith in e)
-        ∙ lifted_last-kept own row (suc row) inside (omega arith)
-
-    pub nothing_here : (path_at : ℕ → List Step) → get_or before row None ≡ None → held path_at 0 (take row after) ≡ held path_at 0 (take (suc row) before)
-    nothing_here path_at e =
-        ap (λ l. held path_at 0 (take row l)) (after_is ∙ lift_nothing stacks before row e)
-        ∙ sym (ap (held path_at 0) (take_next before row None (omega (arith, before-len)) e) ∙ held-snoc path_at 0 (take row before) None ∙ append_nil (held path_at 0 (take row before)))
-      where
-        append_nil : (v : List Weighed) → v ++ [] ≡ v
-        append_nil [] = refl
-        append_nil (c ∷ v) = ap (λ w. c ∷ w) (append_nil v)
-
-    -- the front and one more weight
-    pub next_held : (path_at : ℕ → List Step) (w : ℤ) → get_or before row None ≡ Some w → held path_at 0 (take (suc row) before) ≡ held path_at 0 (take row before) ++ record { steps = path_at row; weight = w } ∷ []
-    next_held path_at w e =
-        ap (held path_at 0) (take_next before row (Some w) (omega (arith, before-len)) e)
-        ∙ held-snoc path_at 0 (take row before) (Some w)
-        ∙ ap (λ n. held path_at 0 (take row before) ++ record { steps = path_at n; weight = w } ∷ []) (let k : 0 + length (take row before) ≡ row = omega (arith, length-take-le row before (omega (arith, before-len))) in k)
-
-    pub one_path : (path_at : ℕ → List Step) (w : ℤ) → get_or before row None ≡ Some w
-        → AreAlike (held path_at 0 (take row after)) (held path_at 0 (take row before) ++ record { steps = path_above path_at (prefix_of stacks row); weight = w } ∷ [])
-    one_path path_at w e =
-        elim (prefix_of stacks row) as (λ o. prefix_of stacks row ≡ o → AreAlike (held path_at 0 (take row after)) (held path_at 0 (take row before) ++ record { steps = path_above path_at o; weight = w } ∷ [])) [
-          | None ↦ λ f.
-              let front = held path_at 0 (take row before) in
-              let empty : Weighed = record { steps = []; weight = w } in
-              subst (λ l. AreAlike (held path_at 0 (take row l)) (front ++ empty ∷ [])) (sym (after_is ∙ lift_root stacks before row f))
-              (alike_on front (empty ∷ front) (front ++ empty ∷ []) (alike_empty w front) (alike_moved empty front))
-          | Some prefix ↦ λ f.
-              let above : prefix < row = below_at stacks below row prefix inside f in
-              let within : prefix < length (take row before) = omega (arith, length-take-le row before (omega (arith, before-len))) in
-              subst (λ l. AreAlike (held path_at 0 l) (held path_at 0 (take row before) ++ record { steps = path_at prefix; weight = w } ∷ []))
-              (sym (ap (take row) (after_is ∙ lift_both stacks before row prefix w e f) ∙ take-more before row prefix w above))
-              (held_more path_at 0 (take row before) prefix prefix w within (omega arith))
-        ] refl
-
-    -- the prefix has a weight at last, where the row has one
-    pub prefix_found : (w : ℤ) (prefix : ℕ) → get_or before row None ≡ Some w → prefix_of stacks row ≡ Some prefix → (v : ℤ) × (get_or (lifted_last stacks own (length stacks)) prefix None ≡ Some v)
-    prefix_found w prefix e f =
-        let above : prefix < row = below_at stacks below row prefix inside f in
-        let has : get_or after prefix None ≡ Some (weight_at before prefix +ℤ w) =
-        ap (λ l. get_or l prefix None) (after_is ∙ lift_both stacks before row prefix w e f) ∙ get_or-set_same before prefix (Some (weight_at before prefix +ℤ w)) None (omega (arith, before-len)) in
-        let k = lifted_last-some own (length stacks - row) row prefix (weight_at before prefix +ℤ w) has in
-        (k.0, ap (λ n. get_or (lifted_last stacks own n) prefix None) (let z : length stacks ≡ row + (length stacks - row) = omega arith in z) ∙ k.1)
-
-  -- what has a weight of its own has one at last
-  pub own_found : (own : List (Option ℤ)) (row : ℕ) (w : ℤ) → get_or own row None ≡ Some w → (v : ℤ) × (get_or (lifted_last stacks own (length stacks)) row None ≡ Some v)
-  own_found own row w e =
-      let k = lifted_last-some own 0 (length stacks) row w e in
-      (k.0, ap (λ n. get_or (lifted_last stacks own n) row None) (let z : length stacks ≡ length stacks + 0 = omega arith in z) ∙ k.1)
+  pub own_found : (row : ℕ) (w : ℤ) → row < length stacks → get_or own row None ≡ Some w → (v : ℤ) × (weight_through stacks own row ≡ Some v)
+  own_found row w h e = weight_of-some (λ r. stands_on stacks r row) 0 own row w e (at_row row row (stands_same stacks below row h))

@@ -1,5 +1,5 @@
 -- The rows of a tree with one more stack row
-use Rattle.std.proofs.Common.{◌≡◌, ◌≢◌, ℕ, zero, suc, ◌+◌, ◌-◌, ◌^◌, ◌<◌, ◌≤◌, ℤ, pos, ◌+ℤ◌, FitsSigned, List, [], ◌∷◌, ◌++◌, length, take, get_or, set, length-set, Option, Some, None, add-one, length-take-le, inl, inr, sym, ap, ◌∙◌, subst, refl, to_z, of_z, arith}
+use Rattle.std.proofs.Common.{◌≡◌, ◌≢◌, ℕ, zero, suc, ◌+◌, ◌^◌, ◌<◌, ◌≤◌, ℤ, pos, ◌+ℤ◌, FitsSigned, Bool, List, [], ◌∷◌, ◌++◌, length, take, get_or, set, length-set, Option, Some, None, add-one, length-take-le, inl, inr, sym, ap, ◌∙◌, subst, refl, to_z, of_z, arith}
 use Rattle.std.specs.Prelude.{unsigned_abs, unwrap_or, slice_get}
 use Rattle.std.specs.Int.{w128}
 use Rattle.std.specs.Option.{IfSome, option_and_then, option_map_or}
@@ -9,7 +9,7 @@ use Rattle.std.proofs.lemmas.Option.{slice_get-get_or}
 use Rattle.std.proofs.Math.Seq.{get_or-append_seam}
 use Rattle.prof_tables.specs.declared.rows.StackRow.{StackRow}
 use Rattle.prof_tables.specs.declared.rows.Step.{Step}
-use Rattle.prof_tables.specs.Paths.{path, path_within, step_of}
+use Rattle.prof_tables.specs.Paths.{PrefixesBelow, path, path_within, step_of}
 use Rattle.prof_tables.proofs.PathRows.{path-row}
 use Rattle.prof_path.specs.Shown.{funcs}
 use Rattle.prof_tree.specs.declared.branch.Branch.{Branch}
@@ -17,11 +17,13 @@ use Rattle.prof_tree.specs.Forest.{key, key_above, branch}
 use Rattle.prof_tree.specs.Growing.{IsTable, IsGrown, Adds, Owns, Index, IsChild, pair_cmp, stepped, ended}
 use Rattle.prof_tree.specs.Nodes.{Weighed, total_at, own_at}
 use Rattle.prof_tree.specs.Sprouting.{AreSprouted, AreWeighed}
-use Rattle.prof_tree.specs.Weighing.{held, lifted_last, mass, no_row, prefix_of, row_path, weight_at}
-use Rattle.prof_tree.proofs.Alike.{Adds-alike, held-snoc}
-use Rattle.prof_tree.proofs.Lifting.{before, after, before-len, at_last_is, nothing_here, next_held, one_path, path_above, prefix_found, below_at, lifted_last-mass, own_found, take_next}
+use Rattle.prof_tree.specs.Weighing.{AreAlike, held, mass, no_row, path_upto, prefix_of, row_path, stands_on, weight_at, weight_through}
+use Rattle.prof_tree.proofs.Alike.{Adds-alike, alike_back, alike_on, held-snoc}
+use Rattle.prof_tree.proofs.Gathering.{as_path, gathered, held_empty, held_same, others, others-mass}
+use Rattle.prof_tree.proofs.Lifting.{own_found, prefix_found, size, take_next}
 use Rattle.prof_tree.proofs.Masses.{most, fits_sum, held-mass, mass-take, mass_within}
 use Rattle.prof_tree.proofs.PathSteps.{length-funcs, starts, is}
+use Rattle.prof_tree.proofs.Standing.{below_at, upto_above, upto_all, upto_first, upto_here, upto_other}
 use Rattle.prof_tree.proofs.Sampled.{path-none, same128}
 use Rattle.prof_tree.proofs.Turns.{Walk, AtChild, at_child, Walk-more, key-long, Table-end, Adds-end, Owns-end}
 use Rattle.prof_tree.proofs.Walking.{in_or_last, length-snoc}
@@ -54,9 +56,6 @@ module _ (stacks : List StackRow) (own : List (Option ℤ)) (n : ℕ) (stack : S
   abbrev path_at : ℕ → List Step
   path_at = row_path stacks
 
-  abbrev ws : List (Option ℤ)
-  ws = before stacks weighed.below own n inside weighed.len
-
   same_row : get_or stacks n no_row ≡ stack
   same_row = (let e : Some (get_or stacks n no_row) ≡ Some stack = sym (slice_get-get_or stacks n no_row inside) ∙ row in cc)
 
@@ -66,53 +65,65 @@ module _ (stacks : List StackRow) (own : List (Option ℤ)) (n : ℕ) (stack : S
   pub prefix_is : above ≡ stack.prefix
   prefix_is = ap (λ (s : StackRow). s.prefix) same_row
 
-  next : length stacks - (n + 1) ≡ length stacks - suc n
-  next = omega arith
+  -- the path of its prefix
+  abbrev pub front : List Step
+  front = path stacks stack.prefix
 
-  above_path : path stacks stack.prefix ≡ path_above path_at above
-  above_path = sym (ap (path_above path_at) prefix_is ∙ by stack.prefix)
-    where
-      by : (o : Option ℕ) → path_above path_at o ≡ path stacks o
-      by None = sym (path-none stacks)
-      by (Some p) = refl
+  pub own_path_is : path_at n ≡ front ++ step_of stack ∷ []
+  own_path_is = path-row stacks n stack weighed.below row
 
-  pub own_path_is : path_at n ≡ path_above path_at above ++ step_of stack ∷ []
-  own_path_is = path-row stacks n stack weighed.below row ∙ ap (λ x. x ++ step_of stack ∷ []) above_path
+  abbrev stands : ℕ → Bool
+  stands row = stands_on stacks row n
+
+  -- the paths of the samples that don't go through the row, and those of all of them without the row and with it
+  abbrev pub others_held : List Weighed
+  others_held = held (path_upto stacks n) 0 (others stands 0 own)
+
+  without_row : AreAlike (held (path_upto stacks n) 0 own) (others_held ++ as_path front (weight_through stacks own n))
+  without_row =
+      gathered stands front (path_upto stacks n) (path_upto stacks n) 0 own
+      (λ row a b e. upto_above stacks weighed.below n row (omega (arith, weighed.len)) inside e ∙ ap (path stacks) prefix_is)
+      (λ row a b e. refl)
+
+  with_row : AreAlike (held (path_upto stacks (n + 1)) 0 own) (others_held ++ as_path (path_at n) (weight_through stacks own n))
+  with_row =
+      gathered stands (path_at n) (path_upto stacks (n + 1)) (path_upto stacks n) 0 own
+      (λ row a b e. ap (λ k. path_upto stacks k row) (add-one n) ∙ upto_here stacks weighed.below n row (omega (arith, weighed.len)) inside e)
+      (λ row a b e. ap (λ k. path_upto stacks k row) (add-one n) ∙ upto_other stacks weighed.below n row e)
 
   -- no sample goes through the row
-  pub sprouted_none : (ks : List (List ℕ)) (rows : List Branch) (look : ℕ × ℕ → Option ℕ) (nodes : List (Option ℕ)) → get_or (lifted_last stacks own (length stacks)) n None ≡ None
+  pub sprouted_none : (ks : List (List ℕ)) (rows : List Branch) (look : ℕ × ℕ → Option ℕ) (nodes : List (Option ℕ)) → weight_through stacks own n ≡ None
       → AreSprouted stacks own n ks rows look nodes → AreSprouted stacks own (n + 1) ks rows look (nodes ++ None ∷ [])
   sprouted_none ks rows look nodes none s =
-      let here : get_or ws n None ≡ None = sym (at_last_is stacks weighed.below own n inside weighed.len) ∙ none in
       record {
         table = s.table;
-        adds = subst (λ xs. Adds xs ks rows) (nothing_here stacks weighed.below own n inside weighed.len path_at here ∙ ap (λ k. held path_at 0 (take k (lifted_last stacks own (length stacks - suc n)))) (sym (add-one n)) ∙ ap (λ k. held path_at 0 (take (n + 1) (lifted_last stacks own k))) (sym next)) s.adds;
+        adds = Adds-alike (held (path_upto stacks n) 0 own) (held (path_upto stacks (n + 1)) 0 own) ks rows same (key-long ks rows look s.table) s.adds;
         owns = s.owns;
         len = length-snoc nodes None ∙ ap (λ k. k + 1) s.len;
         placed = λ q m e. s.placed q m (sym (old q m e) ∙ e);
         found = λ q w h e. (let k : q < n = earlier q w h e in let f = s.found q w k e in (f.0, old_at nodes None q (omega (arith, s.len)) ∙ f.1));
       }
     where
+      same : AreAlike (held (path_upto stacks n) 0 own) (held (path_upto stacks (n + 1)) 0 own)
+      same =
+          alike_on (held (path_upto stacks n) 0 own) (others_held ++ []) (held (path_upto stacks (n + 1)) 0 own)
+          (subst (λ o. AreAlike (held (path_upto stacks n) 0 own) (others_held ++ as_path front o)) none without_row)
+          (alike_back (held (path_upto stacks (n + 1)) 0 own) (others_held ++ []) (subst (λ o. AreAlike (held (path_upto stacks (n + 1)) 0 own) (others_held ++ as_path (path_at n) o)) none with_row))
+
       old : (q m : ℕ) → get_or (nodes ++ None ∷ []) q None ≡ Some m → get_or (nodes ++ None ∷ []) q None ≡ get_or nodes q None
       old q m e = elim (in_or_last q (length nodes) (omega (arith, within_some (nodes ++ None ∷ []) q m e, length-snoc nodes None))) [
         | inl h ↦ old_at nodes None q h
         | inr same ↦ (let k : None ≡ Some m = sym (new_at nodes None) ∙ ap (λ q. get_or (nodes ++ None ∷ []) q None) (sym same) ∙ e in cc)
       ]
 
-      earlier : (q : ℕ) (w : ℤ) → q < n + 1 → get_or (lifted_last stacks own (length stacks)) q None ≡ Some w → q < n
+      earlier : (q : ℕ) (w : ℤ) → q < n + 1 → weight_through stacks own q ≡ Some w → q < n
       earlier q w h e = elim (in_or_last q n h) [
         | inl k ↦ k
-        | inr same ↦ (let k : None ≡ Some w = sym none ∙ ap (λ q. get_or (lifted_last stacks own (length stacks)) q None) (sym same) ∙ e in cc)
+        | inr same ↦ (let k : None ≡ Some w = sym none ∙ ap (weight_through stacks own) (sym same) ∙ e in cc)
       ]
 
   -- samples of weight w go through it
-  module _ (w : ℤ) (ks : List (List ℕ)) (rows : List Branch) (look : ℕ × ℕ → Option ℕ) (nodes : List (Option ℕ)) (some : get_or (lifted_last stacks own (length stacks)) n None ≡ Some w) (s : AreSprouted stacks own n ks rows look nodes) where
-    here_is : get_or ws n None ≡ Some w
-    here_is = sym (at_last_is stacks weighed.below own n inside weighed.len) ∙ some
-
-    abbrev pub others : List Weighed
-    others = held path_at 0 (take n ws)
-
+  module _ (w : ℤ) (ks : List (List ℕ)) (rows : List Branch) (look : ℕ × ℕ → Option ℕ) (nodes : List (Option ℕ)) (some : weight_through stacks own n ≡ Some w) (s : AreSprouted stacks own n ks rows look nodes) where
     abbrev pub parent : Option ℕ
     parent = option_and_then (λ p. get_or nodes p None) stack.prefix
 
@@ -124,7 +135,7 @@ module _ (stacks : List StackRow) (own : List (Option ℤ)) (n : ℕ) (stack : S
     parent_found p e =
         let is : above ≡ Some p = prefix_is ∙ e in
         let lt : p < n = below_at stacks weighed.below n p inside is in
-        let has = prefix_found stacks weighed.below own n inside weighed.len w p here_is is in
+        let has = prefix_found stacks weighed.below own weighed.len n p w inside some is in
         let f = s.found p has.0 lt has.1 in
         (f.0, ap (option_and_then (λ p. get_or nodes p None)) e ∙ f.1)
 
@@ -135,11 +146,11 @@ module _ (stacks : List StackRow) (own : List (Option ℤ)) (n : ℕ) (stack : S
         by None e = tt
         by (Some p) e = omega (arith, below_at stacks weighed.below n p inside (prefix_is ∙ e), s.len)
 
-    place : key_above ks parent ≡ funcs (path_above path_at above)
-    place = by stack.prefix refl ∙ ap (λ o. funcs (path_above path_at o)) (sym prefix_is)
+    place : key_above ks parent ≡ funcs front
+    place = by stack.prefix refl
       where
-        by : (o : Option ℕ) → stack.prefix ≡ o → key_above ks parent ≡ funcs (path_above path_at o)
-        by None e = ap (λ o. key_above ks (option_and_then (λ p. get_or nodes p None) o)) e
+        by : (o : Option ℕ) → stack.prefix ≡ o → key_above ks parent ≡ funcs (path stacks o)
+        by None e = ap (λ o. key_above ks (option_and_then (λ p. get_or nodes p None) o)) e ∙ ap funcs (sym (path-none stacks))
         by (Some p) e = (let f = parent_found p e in ap (key_above ks) f.1 ∙ (parent_is p f.0 e f.1).1)
 
     pub parent_in : (m : ℕ) → parent ≡ Some m → m < length rows
@@ -149,22 +160,22 @@ module _ (stacks : List StackRow) (own : List (Option ℤ)) (n : ℕ) (stack : S
         by None k = (let f : None ≡ Some m = sym (ap (option_and_then (λ p. get_or nodes p None)) k) ∙ e in cc)
         by (Some p) k = (parent_is p m k e).0
 
-    walk : Walk [] others w (path_above path_at above) ks rows look parent
+    walk : Walk [] others_held w front ks rows look parent
     walk = record {
       table = s.table;
-      adds = Adds-alike (held path_at 0 (take n (after stacks weighed.below own n inside weighed.len))) (others ++ record { steps = path_above path_at above; weight = w } ∷ []) ks rows
-          (one_path stacks weighed.below own n inside weighed.len path_at w here_is) (key-long ks rows look s.table) s.adds;
+      adds = Adds-alike (held (path_upto stacks n) 0 own) (others_held ++ record { steps = front; weight = w } ∷ []) ks rows
+          (subst (λ o. AreAlike (held (path_upto stacks n) 0 own) (others_held ++ as_path front o)) some without_row) (key-long ks rows look s.table) s.adds;
       owns = s.owns;
       place = place;
       at_in = parent_in;
     }
 
-    pub depth_is : (m : ℕ) → parent ≡ Some m → (branch rows m).depth + 1 ≡ length (path_above path_at above)
+    pub depth_is : (m : ℕ) → parent ≡ Some m → (branch rows m).depth + 1 ≡ length front
     depth_is m e =
         let lt = parent_in m e in
-        let k : key ks m ≡ funcs (path_above path_at above) = sym (ap (key_above ks) e) ∙ place in
+        let k : key ks m ≡ funcs front = sym (ap (key_above ks) e) ∙ place in
         let some : key ks m ≢ [] = key-long ks rows look s.table m lt in
-        omega (arith, s.table.depths m lt, ap length k, length-funcs (path_above path_at above), long (key ks m) some)
+        omega (arith, s.table.depths m lt, ap length k, length-funcs front, long (key ks m) some)
       where
         long : (l : List ℕ) → l ≢ [] → 0 < length l
         long [] h = absurd (h refl)
@@ -174,56 +185,44 @@ module _ (stacks : List StackRow) (own : List (Option ℤ)) (n : ℕ) (stack : S
     pub depth_fits : (m : ℕ) → parent ≡ Some m → (branch rows m).depth + 1 < 2 ^ 32
     depth_fits m e = omega (arith, depth_is m e, shorter, weighed.few)
       where
-        shorter : length (path_above path_at above) ≤ length stacks
-        shorter = ap-length above
-          where
-            ap-length : (o : Option ℕ) → length (path_above path_at o) ≤ length stacks
-            ap-length None = omega arith
-            ap-length (Some p) = length-path_within stacks (length stacks) (Some p)
+        shorter : length front ≤ length stacks
+        shorter = length-path_within stacks (length stacks) stack.prefix
 
     -- its row, once it is there
     module _ (rows' : List Branch) (index index' : Index) (depth r : ℕ) (looks : look ≡ get pair_cmp index) (deep : depth ≡ option_map_or (λ m. (branch rows m).depth + 1) parent 0) (is_child : IsChild rows index rows' index' parent depth (step_of stack) r) where
-      walk' : Walk [] others w (path_above path_at above) ks rows (get pair_cmp index) parent
-      walk' = subst (λ l. Walk [] others w (path_above path_at above) ks rows l parent) looks walk
+      walk' : Walk [] others_held w front ks rows (get pair_cmp index) parent
+      walk' = subst (λ l. Walk [] others_held w front ks rows l parent) looks walk
 
-      depth_same : depth ≡ length (path_above path_at above)
+      depth_same : depth ≡ length front
       depth_same = deep ∙ by parent refl
         where
-          by : (o : Option ℕ) → parent ≡ o → option_map_or (λ m. (branch rows m).depth + 1) o 0 ≡ length (path_above path_at above)
-          by None e = sym (sym (length-funcs (path_above path_at above)) ∙ ap length (sym place ∙ ap (key_above ks) e))
+          by : (o : Option ℕ) → parent ≡ o → option_map_or (λ m. (branch rows m).depth + 1) o 0 ≡ length front
+          by None e = sym (sym (length-funcs front) ∙ ap length (sym place ∙ ap (key_above ks) e))
           by (Some m) e = depth_is m e
 
-      child_there : (ks' : List (List ℕ)) × AtChild [] others w (path_above path_at above) (step_of stack) ks' rows' (get pair_cmp index') r × ((q : ℕ) → q < length rows → (key ks' q ≡ key ks q) × (q < length rows'))
-      child_there = at_child others w (path_above path_at above) (step_of stack) [] (λ p h. absurd h) ks rows rows' index index' parent depth r depth_same is_child walk'
+      child_there : (ks' : List (List ℕ)) × AtChild [] others_held w front (step_of stack) ks' rows' (get pair_cmp index') r × ((q : ℕ) → q < length rows → (key ks' q ≡ key ks q) × (q < length rows'))
+      child_there = at_child others_held w front (step_of stack) [] (λ p h. absurd h) ks rows rows' index index' parent depth r depth_same is_child walk'
 
       pub child_in : r < length rows'
       child_in = child_there.1.ready.in_rows
 
-      light : mass (take (suc n) ws) ≤ most
-      light =
-          let h = lifted_last-mass stacks weighed.below own (length stacks - suc n) (omega arith) weighed.len in
-          omega (arith, h, weighed.light, ap (λ k. mass (take k ws)) (let e : length stacks - (length stacks - suc n) ≡ suc n = omega arith in e))
-
-      weight_is : weight_at ws n ≡ w
-      weight_is = ap (λ o. unwrap_or o (pos 0)) here_is
-
-      whole : mass (take (suc n) ws) ≡ mass (take n ws) + unsigned_abs w
-      whole = mass-take ws n (omega (arith, before-len stacks weighed.below own n inside weighed.len)) ∙ ap (λ z. mass (take n ws) + unsigned_abs z) weight_is
+      light : mass (others stands 0 own) + unsigned_abs w ≤ most
+      light = omega (arith, others-mass stands 0 own, ap size some, weighed.light)
 
       same_w : to_z w128 (of_z w128 w) ≡ w
-      same_w = same128 w (omega (arith, whole, light))
+      same_w = same128 w (omega (arith, light))
 
       pub child_fits : FitsSigned w128 ((branch rows' r).total +ℤ to_z w128 (of_z w128 w))
       child_fits =
-          let size = held-mass (λ x. starts x (key child_there.0 r)) path_at 0 (take n ws) in
+          let sized = held-mass (λ x. starts x (key child_there.0 r)) (path_upto stacks n) 0 (others stands 0 own) in
           subst (λ z. FitsSigned w128 (z +ℤ to_z w128 (of_z w128 w))) (sym child_there.1.ready.total)
-          (subst (λ z. FitsSigned w128 (total_at others (key child_there.0 r) +ℤ z)) (sym same_w)
-          (fits_sum (total_at others (key child_there.0 r)) w most (omega (arith, size, whole, light)) (omega arith)))
+          (subst (λ z. FitsSigned w128 (total_at others_held (key child_there.0 r) +ℤ z)) (sym same_w)
+          (fits_sum (total_at others_held (key child_there.0 r)) w most (omega (arith, sized, light)) (omega arith)))
 
       -- and once it has the weight
       module _ (rows'' : List Branch) (is_set : rows'' ≡ set rows' r (stepped (branch rows' r) (step_of stack) (to_z w128 (of_z w128 w)))) where
-        stepped_walk : Walk [] others w (path_above path_at above ++ step_of stack ∷ []) child_there.0 rows'' (get pair_cmp index') (Some r)
-        stepped_walk = Walk-more others w (path_above path_at above) (step_of stack) [] child_there.0 rows' rows'' (get pair_cmp index') r (is_set ∙ ap (λ z. set rows' r (stepped (branch rows' r) (step_of stack) z)) same_w) child_there.1
+        stepped_walk : Walk [] others_held w (front ++ step_of stack ∷ []) child_there.0 rows'' (get pair_cmp index') (Some r)
+        stepped_walk = Walk-more others_held w front (step_of stack) [] child_there.0 rows' rows'' (get pair_cmp index') r (is_set ∙ ap (λ z. set rows' r (stepped (branch rows' r) (step_of stack) z)) same_w) child_there.1
 
         longer : length rows'' ≡ length rows'
         longer = ap length is_set ∙ length-set rows' r _
@@ -233,10 +232,11 @@ module _ (stacks : List StackRow) (own : List (Option ℤ)) (n : ℕ) (stack : S
           child_there.0,
           record {
             table = stepped_walk.table;
-            adds = subst (λ xs. Adds xs child_there.0 rows'')
-                (sym (next_held stacks weighed.below own n inside weighed.len path_at w here_is ∙ ap (λ x. others ++ record { steps = x; weight = w } ∷ []) own_path_is)
-                ∙ ap (λ k. held path_at 0 (take k (lifted_last stacks own (length stacks - suc n)))) (sym (add-one n)) ∙ ap (λ k. held path_at 0 (take (n + 1) (lifted_last stacks own k))) (sym next))
-                stepped_walk.adds;
+            adds = Adds-alike (others_held ++ record { steps = front ++ step_of stack ∷ []; weight = w } ∷ []) (held (path_upto stacks (n + 1)) 0 own) child_there.0 rows''
+                (alike_back (held (path_upto stacks (n + 1)) 0 own) (others_held ++ record { steps = front ++ step_of stack ∷ []; weight = w } ∷ [])
+                (subst (λ x. AreAlike (held (path_upto stacks (n + 1)) 0 own) (others_held ++ record { steps = x; weight = w } ∷ [])) own_path_is
+                (subst (λ o. AreAlike (held (path_upto stacks (n + 1)) 0 own) (others_held ++ as_path (path_at n) o)) some with_row)))
+                (key-long child_there.0 rows'' (get pair_cmp index') stepped_walk.table) stepped_walk.adds;
             owns = stepped_walk.owns;
             len = length-snoc nodes (Some r) ∙ ap (λ k. k + 1) s.len;
             placed = placed;
@@ -254,7 +254,7 @@ module _ (stacks : List StackRow) (own : List (Option ℤ)) (n : ℕ) (stack : S
                   (subst (λ m. m < length rows'') is lt, ap (key child_there.0) (sym is) ∙ stepped_walk.place ∙ ap funcs (sym own_path_is) ∙ ap (λ k. funcs (path_at k)) (sym at)))
             ]
 
-            found : (q : ℕ) (v : ℤ) → q < n + 1 → get_or (lifted_last stacks own (length stacks)) q None ≡ Some v → (m : ℕ) × (get_or (nodes ++ Some r ∷ []) q None ≡ Some m)
+            found : (q : ℕ) (v : ℤ) → q < n + 1 → weight_through stacks own q ≡ Some v → (m : ℕ) × (get_or (nodes ++ Some r ∷ []) q None ≡ Some m)
             found q v h e = elim (in_or_last q n h) [
               | inl k ↦ (let f = s.found q v k e in (f.0, old_at nodes (Some r) q (omega (arith, k, s.len)) ∙ f.1))
               | inr same ↦ (r, ap (λ q. get_or (nodes ++ Some r ∷ []) q None) (same ∙ sym s.len) ∙ new_at nodes (Some r))
@@ -264,12 +264,12 @@ abbrev none_of : (A : Type 0) → List A
 none_of A = []
 
 -- before the first stack row
-pub sprouted_first : (stacks : List StackRow) (own : List (Option ℤ)) (look : ℕ × ℕ → Option ℕ) → ((q : ℕ × ℕ) → look q ≡ None) → AreSprouted stacks own 0 [] [] look []
-sprouted_first stacks own look none =
+pub sprouted_first : (stacks : List StackRow) (below : PrefixesBelow stacks) (own : List (Option ℤ)) (look : ℕ × ℕ → Option ℕ) → ((q : ℕ × ℕ) → look q ≡ None) → AreSprouted stacks own 0 [] [] look []
+sprouted_first stacks below own look none =
     let g = IsGrown-none look none in
     record {
       table = g.table;
-      adds = subst (λ xs. Adds xs [] []) (sym (ap (held (row_path stacks) 0) (take_zero (lifted_last stacks own (length stacks - 0))))) g.adds;
+      adds = Adds-alike [] (held (path_upto stacks 0) 0 own) [] [] (held_empty (path_upto stacks 0) 0 own (upto_first stacks below)) (λ q h. absurd (omega arith)) g.adds;
       owns = g.owns;
       len = refl;
       placed = λ q m e. (let k : None ≡ Some m = sym (nothing q) ∙ e in cc);
@@ -279,10 +279,6 @@ sprouted_first stacks own look none =
     nothing : (q : ℕ) → get_or (none_of (Option ℕ)) q None ≡ None
     nothing zero = refl
     nothing (suc q) = refl
-
-    take_zero : (l : List (Option ℤ)) → take 0 l ≡ []
-    take_zero [] = refl
-    take_zero (o ∷ l) = refl
 
 -- the self weights of the first so many rows
 pub record AreEnded (stacks : List StackRow) (own : List (Option ℤ)) (n : ℕ) (ks : List (List ℕ)) (rows : List Branch) (look : ℕ × ℕ → Option ℕ) (nodes : List (Option ℕ)) : Type 0 where
@@ -296,10 +292,10 @@ module _ (stacks : List StackRow) (own : List (Option ℤ)) (weighed : AreWeighe
   pub ended_first : (rows : List Branch) → AreSprouted stacks own (length stacks) ks rows look nodes → AreEnded stacks own 0 ks rows look nodes
   ended_first rows s = record {
     table = s.table;
-    adds = subst (λ xs. Adds xs ks rows) (ap (λ k. held (row_path stacks) 0 (take (length stacks) (lifted_last stacks own k))) (let e : length stacks - length stacks ≡ 0 = omega arith in e) ∙ ap (held (row_path stacks) 0) (take_all (length stacks) own (omega (arith, weighed.len)))) s.adds;
+    adds = subst (λ xs. Adds xs ks rows) (held_same (path_upto stacks (length stacks)) (row_path stacks) 0 own (λ row a b. upto_all stacks weighed.below row (omega (arith, weighed.len)))) s.adds;
     owns = subst (λ xs. Owns xs ks rows) (sym (ap (held (row_path stacks) 0) (take_zero own))) s.owns;
     placed = s.placed;
-    found = λ q w h e. (let f = own_found stacks weighed.below own q w e in s.found q f.0 h f.1);
+    found = λ q w h e. (let f = own_found stacks weighed.below own weighed.len q w h e in s.found q f.0 h f.1);
   }
     where
       take_zero : (l : List (Option ℤ)) → take 0 l ≡ []

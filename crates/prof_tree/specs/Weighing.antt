@@ -1,12 +1,11 @@
 -- What the samples of a thread weigh, added up by their stack rows.
-use Rattle.std.specs.Prelude.{◌≡◌, ◌≢◌, ℕ, zero, suc, ◌-◌, ◌*◌, ◌+◌, ◌≤◌, ℤ, pos, ◌+ℤ◌, unsigned_abs, Bool, List, [], ◌∷◌, length, map, Option, Some, None, slice_set, slice_index_or, unwrap_or}
-use Rattle.std.specs.List.{list_all}
-use Rattle.std.specs.Option.{option_map_or}
+use Rattle.std.specs.Prelude.{◌≡◌, ◌≢◌, ℕ, zero, suc, ◌*◌, ◌+◌, ◌<◌, ◌≤◌, ◌==◌, nat_lt, ℤ, pos, ◌+ℤ◌, unsigned_abs, Bool, if◌then◌else◌, List, [], ◌∷◌, ◌++◌, length, map, Option, Some, None, slice_set, slice_index_or, unwrap_or}
+use Rattle.std.specs.List.{filter, list_all, list_any}
 use Rattle.prof_tables.specs.declared.rows.SampleRow.{SampleRow}
 use Rattle.prof_tables.specs.declared.rows.StackRow.{StackRow}
 use Rattle.prof_tables.specs.declared.rows.Step.{Step}
 use Rattle.prof_tables.specs.Threads.{ThreadTables}
-use Rattle.prof_tables.specs.Paths.{path}
+use Rattle.prof_tables.specs.Paths.{path, step_of}
 use Rattle.prof_tree.specs.declared.weighing.SampleWeights.{SampleWeights}
 use Rattle.prof_tree.specs.Forest.{HasPrefix}
 use Rattle.prof_tree.specs.Nodes.{Weighed, total_at, own_at, categories_at, total, dropped_of}
@@ -67,11 +66,39 @@ no_row = record { prefix = None; func = 0; category = 0 }
 abbrev pub prefix_of : List StackRow → ℕ → Option ℕ
 prefix_of stacks row = (slice_index_or stacks row no_row).prefix
 
--- the weights once that of a row is added to its prefix's, where there are both
-abbrev pub lifted : List StackRow → List (Option ℤ) → ℕ → List (Option ℤ)
-lifted stacks weights row = option_map_or (λ weight. option_map_or (λ prefix. with_more weights prefix weight) (prefix_of stacks row) weights) (slice_index_or weights row None) weights
+-- the rows of a path, the last n at most: those of its row's prefix, and then the row
+abbrev pub rows_within : List StackRow → ℕ → Option ℕ → List ℕ
+rows_within stacks zero stack = []
+rows_within stacks (suc n) None = []
+rows_within stacks (suc n) (Some row) = rows_within stacks n (prefix_of stacks row) ++ row ∷ []
 
--- the same for the last so many rows, the last one first: then each of them has what stands on it and above it
-abbrev pub lifted_last : List StackRow → List (Option ℤ) → ℕ → List (Option ℤ)
-lifted_last stacks weights zero = weights
-lifted_last stacks weights (suc n) = lifted stacks (lifted_last stacks weights n) (length stacks - suc n)
+abbrev pub path_rows : List StackRow → Option ℕ → List ℕ
+path_rows stacks stack = rows_within stacks (length stacks) stack
+
+-- the row is the base, or stands on it
+abbrev pub stands_on : List StackRow → ℕ → ℕ → Bool
+stands_on stacks row base = list_any (λ r. r == base) (path_rows stacks (Some row))
+
+-- two weights together, where there are two
+abbrev pub joined : Option ℤ → Option ℤ → Option ℤ
+joined None more = more
+joined (Some weight) None = Some weight
+joined (Some weight) (Some more) = Some (weight +ℤ more)
+
+-- the weights of the rows that pass a test, from a row on, together: none where no such row has one
+abbrev pub weight_of : (ℕ → Bool) → ℕ → List (Option ℤ) → Option ℤ
+weight_of test row [] = None
+weight_of test row (weight ∷ weights) = joined (if test row then weight else None) (weight_of test (suc row) weights)
+
+-- the weight of the samples that go through a row, where `own` has that of those that stand on each row
+abbrev pub weight_through : List StackRow → List (Option ℤ) → ℕ → Option ℤ
+weight_through stacks own base = weight_of (λ row. stands_on stacks row base) 0 own
+
+-- each row has the weight of the samples that go through it
+pub record AreThrough (stacks : List StackRow) (own weights : List (Option ℤ)) : Type 0 where
+  pub len : length weights ≡ length stacks
+  pub each : (row : ℕ) → row < length stacks → slice_index_or weights row None ≡ weight_through stacks own row
+
+-- the steps of a row's path that the first n rows make
+abbrev pub path_upto : List StackRow → ℕ → ℕ → List Step
+path_upto stacks n row = map (λ r. step_of (slice_index_or stacks r no_row)) (filter (λ r. nat_lt r n) (path_rows stacks (Some row)))

@@ -6,7 +6,7 @@ ghost use Rattle.prof_tables.specs.declared.rows.StackRow.{StackRow};
 ghost use Rattle.prof_tree.specs.Forest.{branch};
 ghost use Rattle.prof_tree.specs.Growing.{IsGrown, pair_cmp};
 ghost use Rattle.prof_tree.specs.Sprouting.{AreSprouted, AreWeighed, IsStack};
-ghost use Rattle.prof_tree.specs.Weighing.{held, lifted_last, row_path};
+ghost use Rattle.prof_tree.specs.Weighing.{AreThrough, held, row_path};
 
 use crate::branch::Branch;
 use crate::growing::{add_own, add_total, child};
@@ -81,8 +81,8 @@ fn sprout_all(
     stacks: &[StackRow],
     through: &[Option<i128>],
 ) -> Result<Sprouts, AllocError>
-    requires { (own : List (Option ℤ)) × AreWeighed stacks.now own × (through.now ≡ lifted_last stacks.now own (length stacks.now)) }
-    ensures { IfOk result (λ s. (own : List (Option ℤ)) → AreWeighed stacks.now own → through.now ≡ lifted_last stacks.now own (length stacks.now)
+    requires { (own : List (Option ℤ)) × AreWeighed stacks.now own × AreThrough stacks.now own through.now }
+    ensures { IfOk result (λ s. (own : List (Option ℤ)) → AreWeighed stacks.now own → AreThrough stacks.now own through.now
         → (ks : List (List ℕ)) × (look : (ℕ × ℕ → Option ℕ)) × AreSprouted stacks.now own (length stacks.now) ks s.rows.items look s.nodes.items) }
 {
     let mut rows = Vec::new(alloc);

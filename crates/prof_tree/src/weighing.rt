@@ -1,9 +1,9 @@
 // What the samples of a thread weigh, added up by the stack rows that they stand on.
-ghost use Rattle.std.specs.Prelude.{◌≡◌, ◌∷◌, ◌++◌, [], ◌≤◌, ◌<◌, ◌*◌, ◌+◌, ◌+ℤ◌, ℕ, List, length, take, replicate, None, IfOk, IfSome, FitsSigned};
+ghost use Rattle.std.specs.Prelude.{◌≡◌, ◌∷◌, ◌++◌, [], ◌≤◌, ◌<◌, ◌*◌, ◌+◌, ◌+ℤ◌, ℕ, List, length, take, replicate, None, IfOk, IfSome, FitsSigned, slice_set, slice_index_or};
 ghost use Rattle.std.specs.Int.{w128};
 ghost use Rattle.prof_tables.specs.declared.rows.StackRow.{StackRow};
 ghost use Rattle.prof_tables.specs.Paths.{path, PrefixesBelow};
-ghost use Rattle.prof_tree.specs.Weighing.{Weighs, own_paths, weight_at, with_more, lifted, lifted_last, mass};
+ghost use Rattle.prof_tree.specs.Weighing.{Weighs, own_paths, weight_at, with_more, mass, prefix_of, joined, AreThrough};
 ghost use Rattle.prof_tree.specs.Nodes.{Weighed};
 
 use crate::growing::plus;
@@ -80,7 +80,9 @@ fn lift(stacks: &[StackRow], weights: &mut [Option<i128>], row: usize)
     requires lengths { length weights.old ≡ length stacks.now }
     requires below { PrefixesBelow stacks.now }
     requires light { mass (take (row + 1) weights.old) ≤ 8388608 * 9223372036854775808 }
-    ensures { weights.new ≡ lifted stacks.now weights.old row }
+    ensures root { prefix_of stacks.now row ≡ None → weights.new ≡ weights.old }
+    ensures prefix { IfSome (prefix_of stacks.now row) (λ prefix. weights.new
+        ≡ slice_set weights.old prefix (joined (slice_index_or weights.old prefix None) (slice_index_or weights.old row None))) }
 {
     let Some(weight) = weights[row] else {
         return;
@@ -95,7 +97,7 @@ fn lift_all(stacks: &[StackRow], weights: &mut [Option<i128>])
     requires lengths { length weights.old ≡ length stacks.now }
     requires below { PrefixesBelow stacks.now }
     requires light { mass weights.old ≤ 8388608 * 9223372036854775808 }
-    ensures { weights.new ≡ lifted_last stacks.now weights.old (length stacks.now) }
+    ensures { AreThrough stacks.now weights.old weights.new }
 {
     for row in (0..stacks.len()).rev() {
         lift(stacks, weights, row);
@@ -111,7 +113,7 @@ pub fn through_rows(
     requires lengths { length own.now ≡ length stacks.now }
     requires below { PrefixesBelow stacks.now }
     requires light { mass own.now ≤ 8388608 * 9223372036854775808 }
-    ensures { IfOk result (λ through. through.items ≡ lifted_last stacks.now own.now (length stacks.now)) }
+    ensures { IfOk result (λ through. AreThrough stacks.now own.now through.items) }
 {
     let mut through = own.to_vec(alloc)?;
     lift_all(stacks, &mut through);

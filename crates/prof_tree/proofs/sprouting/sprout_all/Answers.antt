@@ -1,11 +1,10 @@
-use Rattle.std.proofs.Common.{rules, ◌≡◌, ◌+◌, ◌<◌, ℕ, ℤ, List, [], length, get_or, Option, None, sym, ap, subst, arith}
+use Rattle.std.proofs.Common.{rules, ◌≡◌, ◌+◌, ◌<◌, ℕ, ℤ, List, [], length, get_or, Option, None, sym, subst, arith}
 use Rattle.std.specs.BTreeMap.{get}
 use Rattle.std.proofs.lemmas.Option.{slice_get-get_or}
 use Rattle.prof_tables.specs.declared.rows.StackRow.{StackRow}
 use Rattle.prof_tree.specs.Growing.{pair_cmp}
 use Rattle.prof_tree.specs.Sprouting.{AreSprouted, IsStack}
-use Rattle.prof_tree.specs.Weighing.{lifted_last, no_row}
-use Rattle.prof_tree.proofs.Lifting.{length-lifted_last}
+use Rattle.prof_tree.specs.Weighing.{AreThrough, no_row}
 use Rattle.prof_tree.proofs.RowByRow.{sprouted_first}
 use Rattle.prof_tree.proofs.sprouting.sprout_all.Goals as goal
 
@@ -14,20 +13,20 @@ loop-place-init c = λ own weighed is. (
   [],
   subst (λ l. AreSprouted c.args.stacks.now own 0 [] l (get pair_cmp c.new-index.result) c.in_ok-nodes.nodes.items) (sym c.new-rows.ensures.items)
       (subst (λ l. AreSprouted c.args.stacks.now own 0 [] [] (get pair_cmp c.new-index.result) l) (sym c.in_ok-nodes.ensures.items)
-      (sprouted_first c.args.stacks.now own (get pair_cmp c.new-index.result) (λ q. search (rules, c.new-index.ensures.empty)))),
+      (sprouted_first c.args.stacks.now weighed.below own (get pair_cmp c.new-index.result) (λ q. search (rules, c.new-index.ensures.empty)))),
 )
 
 -- the next stack row
-is_next : (stacks : List StackRow) (own : List (Option ℤ)) (through : List (Option ℤ)) (n place : ℕ) → n ≡ place → place < length stacks → through ≡ lifted_last stacks own (length stacks)
+is_next : (stacks : List StackRow) (own : List (Option ℤ)) (through : List (Option ℤ)) (n place : ℕ) → n ≡ place → place < length stacks → AreThrough stacks own through
     → IsStack stacks own n (get_or stacks place no_row) (get_or through place None)
 is_next stacks own through n place same inside is =
     subst (λ k. IsStack stacks own k (get_or stacks place no_row) (get_or through place None)) (sym same)
-    (record { row = slice_get-get_or stacks place no_row inside; through = ap (λ l. get_or l place None) is })
+    (record { row = slice_get-get_or stacks place no_row inside; through = is.each place inside })
 
 pub bounds-through-place : goal.bounds-through-place
 bounds-through-place c =
     let r = c.requires in
-    omega (arith, c.loop-place-test.true, ap length r.2, length-lifted_last c.args.stacks.now r.0 (length c.args.stacks.now), r.1.len)
+    omega (arith, c.loop-place-test.true, r.2.len)
 
 pub sprout-requires : goal.sprout-requires
 sprout-requires c =

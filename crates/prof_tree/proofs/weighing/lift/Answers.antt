@@ -1,10 +1,10 @@
-use Rattle.std.proofs.Common.{◌≡◌, ◌<◌, ◌≤◌, ◌+◌, ◌+ℤ◌, ℕ, ℤ, pos, List, length, take, get_or, add-one, FitsSigned, Option, None, Some, to_z, of_z, sym, ap, ◌∙◌, subst, arith}
+use Rattle.std.proofs.Common.{◌≡◌, ◌<◌, ◌≤◌, ◌+◌, ◌+ℤ◌, ℕ, ℤ, pos, List, length, take, get_or, add-one, FitsSigned, Option, None, Some, to_z, of_z, sym, ap, subst, arith}
 use Rattle.std.specs.Prelude.{unsigned_abs, unwrap_or}
 use Rattle.std.specs.Int.{w128}
 use Rattle.std.proofs.lemmas.Int.{to_z-of_z}
-use Rattle.prof_tree.specs.Weighing.{mass, weight_at, with_more}
+use Rattle.prof_tree.specs.Weighing.{mass, weight_at}
 use Rattle.prof_tree.proofs.Masses.{fits_sum, fits_within, two_weights, most}
-use Rattle.prof_tree.proofs.Lifting.{below_at, lift_both, lift_root}
+use Rattle.prof_tree.proofs.Standing.{below_at}
 use Rattle.prof_tree.proofs.weighing.lift.Goals as goal
 
 pub add_weight-requires-clause-row : goal.add_weight-requires-clause-row
@@ -29,14 +29,3 @@ add_weight-requires-clause-fits c =
     let w = c.in-Some.weight in
     let h : unsigned_abs (weight_at ws c.in-Some-prefix.prefix) + unsigned_abs w ≤ most = two ws c.args.row c.in-Some-prefix.prefix w above (omega (arith, c.requires.row, c.requires.lengths)) c.in-Some.is c.requires.light in
     subst (λ z. FitsSigned w128 (weight_at ws c.in-Some-prefix.prefix +ℤ z)) (sym (same w _ h)) (fits_sum (weight_at ws c.in-Some-prefix.prefix) w most h (omega arith))
-
-pub returns-in-Some-prefix : goal.returns-in-Some-prefix
-returns-in-Some-prefix c =
-    let above : c.in-Some-prefix.prefix < c.args.row = below_at c.args.stacks.now c.requires.below c.args.row c.in-Some-prefix.prefix c.requires.row c.in-Some-prefix.is in
-    let ws = c.args.weights.now in
-    let w = c.in-Some.weight in
-    let h : unsigned_abs (weight_at ws c.in-Some-prefix.prefix) + unsigned_abs w ≤ most = two ws c.args.row c.in-Some-prefix.prefix w above (omega (arith, c.requires.row, c.requires.lengths)) c.in-Some.is c.requires.light in
-    c.add_weight.ensures ∙ ap (with_more ws c.in-Some-prefix.prefix) (same w _ h) ∙ sym (lift_both c.args.stacks.now ws c.args.row c.in-Some-prefix.prefix w c.in-Some.is c.in-Some-prefix.is)
-
-pub returns-in_default-prefix : goal.returns-in_default-prefix
-returns-in_default-prefix c = sym (lift_root c.args.stacks.now c.args.weights.now c.args.row c.in_default-prefix.is)

@@ -1,13 +1,13 @@
-use Rattle.std.proofs.Common.{◌≡◌, ◌-◌, ◌+◌, length, take, ap, arith}
-use Rattle.prof_tree.specs.Weighing.{mass}
-use Rattle.prof_tree.proofs.Lifting.{lifted_last-mass}
+use Rattle.std.proofs.Common.{◌≡◌, ◌-◌, ◌<◌, suc, length, subst, arith}
+use Rattle.prof_tree.proofs.Lifting.{AreLifted, lifted_next}
 use Rattle.prof_tree.proofs.weighing.lift_all.Goals as goal
 
-pub lift-requires-clause-light : goal.lift-requires-clause-light
-lift-requires-clause-light c =
+pub loop-row-preserved : goal.loop-row-preserved
+loop-row-preserved c =
     let stacks = c.args.stacks.now in
-    let ws = c.args.weights.now in
-    let n = length stacks - c.loop-row.row in
-    let light = lifted_last-mass stacks c.requires.below ws n (omega arith) c.requires.lengths in
-    let at : c.loop-row.row - 1 + 1 ≡ length stacks - n = omega (arith, c.loop-row-test.true, c.loop-row.auto.row) in
-    omega (arith, light, c.requires.light, ap (λ m. mass (take m c.loop-row.weights)) at, ap (λ l. mass (take (length stacks - n) l)) c.loop-row.invariant)
+    let row = c.loop-row.row - 1 in
+    let ws = c.loop-row.weights in
+    let next : c.loop-row.row ≡ suc row = omega (arith, c.loop-row-test.true) in
+    let inside : row < length stacks = omega (arith, c.loop-row-test.true, c.loop-row.auto.row) in
+    lifted_next stacks c.requires.below c.args.weights.now row inside ws (subst (λ n. AreLifted stacks c.args.weights.now n ws) next c.loop-row.invariant)
+    c.lift.new.weights c.lift.ensures.root c.lift.ensures.prefix
