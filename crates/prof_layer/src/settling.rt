@@ -24,43 +24,38 @@ fn same(a: &Transform, b: &Transform) -> bool
     ensures { IsTrue result ↔ (a.now ≡ b.now) }
 {
     use Transform::*;
-    match (a, b) {
-        (MergeFunction { func: f }, MergeFunction { func: g })
-        | (DropFunction { func: f }, DropFunction { func: g })
-        | (FocusFunction { func: f }, FocusFunction { func: g })
-        | (CollapseRecursion { func: f }, CollapseRecursion { func: g })
-        | (CollapseFunctionSubtree { func: f }, CollapseFunctionSubtree { func: g }) => f == g,
-        (FocusCategory { category: f }, FocusCategory { category: g }) => f == g,
-        (
-            CollapseResource {
-                filter: i,
-                resource: f,
-            },
-            CollapseResource {
-                filter: j,
-                resource: g,
-            },
-        )
-        | (
-            CollapseDirectRecursion { filter: i, func: f },
-            CollapseDirectRecursion { filter: j, func: g },
-        ) => i == j && f == g,
-        (MergeCallNode { filter: i, path: p }, MergeCallNode { filter: j, path: q }) => i == j
-            && same_path(p, q),
-        (
-            FocusSubtree {
-                filter: i,
-                path: p,
-                inverted: b,
-            },
-            FocusSubtree {
-                filter: j,
-                path: q,
-                inverted: c,
-            },
-        ) => i == j && b == c && same_path(p, q),
-        (FilterSamples { search: f }, FilterSamples { search: g }) => f.as_str() == g.as_str(),
-        _ => false,
+    match a {
+        MergeFunction { func } => matches!(b, MergeFunction { func: g } if func == g),
+        MergeCallNode { filter, path } => {
+            matches!(b, MergeCallNode { filter: j, path: q } if filter == j && same_path(path, q))
+        }
+        DropFunction { func } => matches!(b, DropFunction { func: g } if func == g),
+        FocusSubtree {
+            filter,
+            path,
+            inverted,
+        } => {
+            matches!(
+                b,
+                FocusSubtree { filter: j, path: q, inverted: v }
+                    if filter == j && inverted == v && same_path(path, q)
+            )
+        }
+        FocusFunction { func } => matches!(b, FocusFunction { func: g } if func == g),
+        FocusCategory { category } => matches!(b, FocusCategory { category: c } if category == c),
+        CollapseResource { filter, resource } => {
+            matches!(b, CollapseResource { filter: j, resource: r } if filter == j && resource == r)
+        }
+        CollapseDirectRecursion { filter, func } => {
+            matches!(b, CollapseDirectRecursion { filter: j, func: g } if filter == j && func == g)
+        }
+        CollapseRecursion { func } => matches!(b, CollapseRecursion { func: g } if func == g),
+        CollapseFunctionSubtree { func } => {
+            matches!(b, CollapseFunctionSubtree { func: g } if func == g)
+        }
+        FilterSamples { search } => {
+            matches!(b, FilterSamples { search: s } if search.as_str() == s.as_str())
+        }
     }
 }
 
