@@ -150,6 +150,10 @@ is_kept-more found spans m = list_all-append (λ spans. list_any (is_during m) s
     and-true true = refl
     and-true false = refl
 
+-- intervals that hold the same moments are alike there
+pub is_kept-alike : (found : List (List Span)) (these those : List Span) (m : ℤ) → list_any (is_during m) these ≡ list_any (is_during m) those → is_kept (found ++ these ∷ []) m ≡ is_kept (found ++ those ∷ []) m
+is_kept-alike found these those m h = is_kept-more found these m ∙ ap (λ b. is_kept found m && b) h ∙ sym (is_kept-more found those m)
+
 -- the flags of one more sample
 pub flags-more : (samples : List SampleRow) (keep : SampleRow → Bool) (k : ℕ) (flags new : List Bool) (b : Bool) → length flags ≡ k → new ≡ flags ++ b ∷ []
     → ((j : ℕ) (s : SampleRow) → j < k → slice_get samples j ≡ Some s → slice_get flags j ≡ Some (keep s))

@@ -5,3 +5,4 @@ pub mod FocusLaws
 pub mod LayerLaws
 pub mod StackLaws
 pub mod SettleLaws
+pub mod PeriodLaws

@@ -5,6 +5,7 @@ pub mod Passing
 pub mod Focusing
 pub mod Following
 pub mod Kept
+pub mod Periods
 pub mod Stacked
 pub mod Common
 pub mod Examples

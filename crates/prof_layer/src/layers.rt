@@ -1,9 +1,7 @@
 //! Stack tables over a base, rewritten by one transform after another.
 ghost use Rattle.std.specs.Prelude.{◌≡◌, ◌<◌, ◌≤◌, ◌+◌, ◌-◌, ℕ, true, false, [], ◌∷◌, ◌++◌, length, take, Some, None, slice_get, IfOk, OnOk, OnErr};
-ghost use Rattle.std.specs.List.{list_any};
 ghost use Rattle.prof_tables.specs.declared.rows.SampleRow.{SampleRow};
 ghost use Rattle.prof_path.specs.Refusals.{refusal_of};
-ghost use Rattle.prof_path.specs.Rewriting.{is_during};
 ghost use Rattle.prof_layer.specs.Rewritten.{IsRowOf, entry_at};
 ghost use Rattle.prof_layer.specs.Following.{follow};
 ghost use Rattle.prof_layer.specs.Simulates.{Simulates, Stands, is_of_samples, of_rows, sample_path, own_entries};
@@ -11,10 +9,11 @@ ghost use Rattle.prof_layer.specs.Kept.{found_of, is_kept, AreFlags};
 
 use crate::layer::Table;
 use crate::passing::Rewritten;
+use crate::periods::Periods;
 use crate::rewriting::{followed, rewritten};
 use prof_io::{NoMemory, Steps};
 use prof_path::{Span, SpanList, Transform};
-use prof_tables::{SampleRow, Stacks, Thread};
+use prof_tables::{Stacks, Thread};
 use std::alloc::{AllocError, Global};
 use std::marker::Model;
 use std::rc::Rc;
@@ -25,16 +24,6 @@ fn is_of_samples(t: &Transform) -> bool
     ensures { result ≡ is_of_samples t.now }
 {
     matches!(t, Transform::FilterSamples { .. })
-}
-
-/// Whether a sample's time lies in one of the intervals.
-fn is_during_any(sample: SampleRow, spans: &[Span]) -> bool
-    ensures { result ≡ list_any (is_during sample.time) spans.now }
-{
-    let time = sample.time;
-    spans
-        .iter()
-        .any(|span| span.start <= time && time <= span.end)
 }
 
 /// A thread's stack rows under transforms. For each transform that rewrites rows it keeps the rows that this makes, and
@@ -178,21 +167,22 @@ impl Layers {
     }
 
     /// Whether a sample is still there once a transform of samples has these intervals.
-    fn stays(&self, k: u32, spans: &[Span]) -> bool
+    fn stays(&self, k: u32, periods: &Periods) -> bool
         requires { k < length self.now.base.samples }
-        ensures { (s : SampleRow) → slice_get self.now.base.samples k ≡ Some s → result ≡ is_kept (found_of self.now.settled self.now.spans ++ spans.now ∷ []) s.time }
+        ensures { (s : SampleRow) → slice_get self.now.base.samples k ≡ Some s → result ≡ is_kept (found_of self.now.settled self.now.spans ++ periods.now ∷ []) s.time }
     {
-        self.is_kept(k) && is_during_any(self.base().sample(k), spans)
+        self.is_kept(k) && periods.has(self.base().sample(k).time)
     }
 
     /// The flags of the samples that are still there once a transform of samples has these intervals.
     fn flags_with(&self, alloc: Global, spans: &[Span]) -> Result<Vec<bool>, AllocError>
         ensures { IfOk result (λ flags. AreFlags self.now.base.samples (found_of self.now.settled self.now.spans ++ spans.now ∷ []) flags.items) }
     {
+        let periods = Periods::of(alloc, spans)?;
         let count = self.base().sample_count();
         let mut flags = Vec::with_capacity(alloc, count as usize)?;
         for k in 0..count {
-            flags.push(self.stays(k, spans))?;
+            flags.push(self.stays(k, &periods))?;
         }
         Ok(flags)
     }

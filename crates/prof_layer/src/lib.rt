@@ -6,6 +6,7 @@ mod focusing;
 mod layer;
 mod layers;
 mod passing;
+mod periods;
 mod rewriting;
 mod settling;
 

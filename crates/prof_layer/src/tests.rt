@@ -4,6 +4,7 @@ ghost use Rattle.prof_path.specs.declared.transform.Transform.{Transform};
 ghost use Rattle.prof_path.specs.Refusals.{refusal_of};
 
 use crate::Layers;
+use crate::periods::Periods;
 use prof_io::{Steps, Text};
 use prof_path::Implementation::{Combined, Js};
 use prof_path::{FuncPath, Implementation, Span, SpanList, Transform, check};
@@ -371,4 +372,47 @@ fn settled_in_turn<L: Ledger>(rt: &impl Abort, alloc: Global, blank: Blank) -> R
 #[test]
 fn layers_are_settled_in_turn(rt: HostRuntime) -> Result<(), Fail> {
     settled_in_turn::<Brand>(&rt, rt.alloc(), Blank::new(1))
+}
+
+/// One that another one nests in and a third overlaps, two that touch, and two without a moment.
+const UNSORTED: [Span; 7] = [
+    Span { start: 50, end: 60 },
+    Span { start: 10, end: 40 },
+    Span { start: 48, end: 47 },
+    Span { start: 20, end: 25 },
+    Span { start: 60, end: 70 },
+    Span { start: 80, end: 30 },
+    Span { start: 35, end: 45 },
+];
+
+/// Moments, and whether one of these holds them.
+const MOMENTS: [(i64, bool); 17] = [
+    (-1, false),
+    (9, false),
+    (10, true),
+    (25, true),
+    (26, true),
+    (41, true),
+    (45, true),
+    (46, false),
+    (47, false),
+    (48, false),
+    (49, false),
+    (50, true),
+    (60, true),
+    (61, true),
+    (70, true),
+    (71, false),
+    (80, false),
+];
+
+#[test]
+fn periods_hold_what_one_of_their_intervals_holds(rt: HostRuntime) -> Result<(), Fail> {
+    let periods = Periods::of(rt.alloc(), &UNSORTED)?;
+    for (moment, held) in MOMENTS {
+        assert_eq!(rt; periods.has(moment), held, "at {moment}");
+    }
+    let none = Periods::of(rt.alloc(), &[])?;
+    assert!(rt; !none.has(0));
+    Ok(())
 }

@@ -2,14 +2,15 @@ use Rattle.std.proofs.lemmas.Option.{slice_get_within}
 use Rattle.std.proofs.Common.{◌≡◌, ◌+◌, ◌∷◌, [], ◌++◌, length, ap, ◌∙◌, arith, length-append}
 use Rattle.prof_tables.specs.Threads.{ThreadTables}
 use Rattle.prof_layer.specs.Kept.{found_of, is_kept}
-use Rattle.prof_layer.proofs.LayerLaws.{flags-more}
+use Rattle.prof_layer.proofs.LayerLaws.{flags-more, is_kept-alike}
 use Rattle.prof_layer.proofs.layers.Layers.flags_with.Goals as goal
 
 pub loop-k-preserved : goal.loop-k-preserved
 loop-k-preserved c = record {
   count = ap length c.in_ok-push.ensures.items ∙ length-append c.loop-k.flags.items (c.stays.result ∷ []) ∙ ap (λ n. n + 1) c.loop-k.invariant.count;
   each = flags-more c.args.self.now.base.samples (λ s. is_kept (found_of c.args.self.now.settled c.args.self.now.spans ++ c.args.spans.now ∷ []) s.time) c.loop-k.k c.loop-k.flags.items c.push.new.self.items c.stays.result
-      c.loop-k.invariant.count c.in_ok-push.ensures.items c.loop-k.invariant.each c.stays.ensures;
+      c.loop-k.invariant.count c.in_ok-push.ensures.items c.loop-k.invariant.each
+      (λ s at. c.stays.ensures s at ∙ is_kept-alike (found_of c.args.self.now.settled c.args.self.now.spans) c.in_ok-periods.periods c.args.spans.now s.time (c.in_ok-periods.ensures s.time));
 }
 
 pub returns : goal.returns
