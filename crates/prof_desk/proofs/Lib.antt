@@ -1,7 +1,6 @@
-pub mod Parts
+pub mod Pieces
 pub mod Pages
-pub mod Quoting
 pub mod Fresh
 pub mod Rows
 pub mod OwnTree
-pub mod OfText
+pub mod Carrying

@@ -1,15 +1,17 @@
 -- What is told of a profile that isn't accepted: the rule that it breaks, or the fault of its JSON, with the place.
 use Rattle.std.specs.Prelude.{ℕ, List, [], ◌++◌, codes, Option, Some, None}
 use Rattle.std.specs.Fmt.{decimal}
-use Rattle.prof_tables.specs.declared.rule.Rule.{Rule}
-use Rattle.prof_tables.specs.declared.rule.Rule.TheVariants as rule
-use Rattle.prof_tables.specs.declared.rule.Table.{Table}
-use Rattle.prof_tables.specs.declared.rule.Table.TheVariants as table
-use Rattle.prof_tables.specs.declared.rule.Column.{Column}
-use Rattle.prof_tables.specs.declared.rule.Column.TheVariants as column
-use Rattle.prof_tables.specs.declared.rule.Broken.{Broken}
+use Rattle.prof_raw.specs.declared.rule.Rule.{Rule}
+use Rattle.prof_raw.specs.declared.rule.Rule.TheVariants as rule
+use Rattle.prof_raw.specs.declared.rule.Table.{Table}
+use Rattle.prof_raw.specs.declared.rule.Table.TheVariants as table
+use Rattle.prof_raw.specs.declared.rule.Column.{Column}
+use Rattle.prof_raw.specs.declared.rule.Column.TheVariants as column
+use Rattle.prof_raw.specs.declared.rule.Broken.{Broken}
 use Rattle.prof_json.specs.declared.answer.JsonFault.{JsonFault}
 use Rattle.prof_json.specs.declared.answer.JsonFault.TheVariants.{NotJson, TooDeep, TooLong, ReadFault, NoMemory}
+use Rattle.prof_desk.specs.declared.breaks.Break.{Break}
+use Rattle.prof_desk.specs.declared.breaks.Break.TheVariants as break
 
 abbrev pub rule_text : Rule → List ℕ
 rule_text rule.WrongKind = codes "B1"
@@ -84,3 +86,9 @@ fault_text (TooDeep at) = codes "broken J2 " ++ decimal at
 fault_text TooLong = codes "broken J3"
 fault_text ReadFault = []
 fault_text NoMemory = []
+
+-- why a text isn't accepted, if it isn't
+abbrev pub break_text : Option Break → List ℕ
+break_text None = []
+break_text (Some (break.Json f)) = fault_text f
+break_text (Some (break.Rule b)) = broken_text b

@@ -1,9 +1,13 @@
 pub mod Breaks
+pub mod Inputs
 pub mod Lines
+pub mod Orders
 pub mod Output
+pub mod Outcomes
 pub mod Playing
-pub mod Quoted
+pub mod Ran
 pub mod Replies
 pub mod Telling
+pub mod Ways
 pub mod Words
 pub mod Writing

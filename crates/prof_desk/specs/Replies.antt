@@ -2,8 +2,8 @@
 use Rattle.std.specs.Prelude.{ℕ, ℤ, ◌+◌, ◌<◌, List, [], ◌++◌, length, codes, Option, Some, None, ⊤}
 use Rattle.std.specs.Fmt.{decimal}
 use Rattle.std.specs.List.{All, flat_map}
-use Rattle.prof_tables.specs.declared.rows.Unit.{Unit}
-use Rattle.prof_tables.specs.declared.rows.Unit.TheVariants as unit
+use Rattle.prof_raw.specs.declared.raw.Unit.{Unit}
+use Rattle.prof_raw.specs.declared.raw.Unit.TheVariants as unit
 use Rattle.prof_tables.specs.Threads.{SharedTables, ThreadTables, func_name}
 use Rattle.prof_tree.specs.declared.node.Node.{Node}
 use Rattle.prof_desk.specs.declared.reply.Refusal.{Refusal}
@@ -11,7 +11,7 @@ use Rattle.prof_desk.specs.declared.reply.Refusal.TheVariants.{NoSession, NoThre
 use Rattle.prof_desk.specs.declared.reply.Reply.{Reply}
 use Rattle.prof_desk.specs.declared.reply.Reply.TheVariants.{Done, Tree, Refused}
 use Rattle.prof_desk.specs.Lines.{node_head, tree_head}
-use Rattle.prof_desk.specs.Quoted.{quoted}
+use Rattle.prof_writer.specs.Writing.{quoted}
 use Rattle.prof_desk.specs.Telling.{line}
 
 abbrev pub unit_text : Unit → List ℕ
@@ -37,7 +37,7 @@ refusal_text (NoThread threads) = codes "refused S4 NoThread " ++ decimal thread
 abbrev pub reply_bytes : Option ThreadTables → Reply → List ℕ
 reply_bytes thread (Done version) = line (codes "ok " ++ decimal version)
 reply_bytes None (Tree tree) = []
-reply_bytes (Some t) (Tree tree) = tree_text t tree.nodes.items tree.selected tree.dropped
+reply_bytes (Some t) (Tree tree) = tree_text t tree.nodes tree.selected tree.dropped
 reply_bytes thread (Refused refusal) = line (refusal_text refusal)
 
 -- each node's function is one of the thread's, or one of its resources collapsed
@@ -48,5 +48,5 @@ HasFuncs t nodes = All (λ (node : Node). node.func < length t.shared.funcs + le
 abbrev pub CanTell : Option ThreadTables → Reply → Type 0
 CanTell thread (Done version) = ⊤
 CanTell None (Tree tree) = ⊥
-CanTell (Some t) (Tree tree) = HasFuncs t tree.nodes.items
+CanTell (Some t) (Tree tree) = HasFuncs t tree.nodes
 CanTell thread (Refused refusal) = ⊤

@@ -1,11 +1,9 @@
 -- What is told of a status.
-use Rattle.std.specs.Prelude.{◌⊎◌, ℕ, List, [], ◌∷◌, ◌++◌, codes}
-use Rattle.std.specs.Io.KnownBytes.{Appends}
-use Rattle.std.specs.declared.option.Option.{Option}
-use Rattle.prof_io.specs.Causes.{Rose}
-use Rattle.prof_io.specs.Bytes.{AppendsPart}
+use Rattle.std.specs.Prelude.{ℕ, List, [], ◌∷◌, ◌++◌, codes}
 use Rattle.prof_desk.specs.declared.status.Status.{Status}
 use Rattle.prof_desk.specs.declared.status.Status.TheVariants.{Done, Broken, Usage, FileFault, OutFault, HallFault, NoMemory, KeeperFault}
+use Rattle.prof_desk.specs.declared.words.WordRefusal.{WordRefusal}
+use Rattle.prof_desk.specs.declared.words.WordRefusal.TheVariants as refusal
 
 -- a line
 abbrev pub line : List ℕ → List ℕ
@@ -22,6 +20,7 @@ told HallFault name broken = line (codes "hall fault")
 told NoMemory name broken = line (codes "no memory")
 told KeeperFault name broken = line (codes "keeper fault")
 
--- the text was written, or a part of it where the count of faults rose
-abbrev pub Tells : Option (List ℕ) → Option (List ℕ) → ℕ → ℕ → List ℕ → Type 0
-Tells old new before now text = Appends old new text ⊎ (Rose before now × AppendsPart old new text)
+-- the status of a run whose words are refused
+abbrev pub refusal_status : WordRefusal → Status
+refusal_status refusal.Usage = Usage
+refusal_status refusal.NoMemory = NoMemory

@@ -18,10 +18,6 @@ order_of (command ∷ []) = None
 order_of (command ∷ name ∷ []) = if bytes_eq command (codes "tree") && is_name name then Some (Tree name) else None
 order_of (command ∷ name ∷ word ∷ words) = None
 
--- the file that an order reads
-abbrev pub file_of : Order → List ℕ
-file_of (Tree name) = name
-
 -- the words as texts
 abbrev pub texts_of : List (String Global) → List (List ℕ)
 texts_of words = map string_bytes words

@@ -1,12 +1,21 @@
 // What is told of a profile that isn't accepted.
 ghost use Rattle.std.specs.Prelude.{◌≡◌, ◌≤◌, ◌+◌, ◌++◌, length, codes, Some};
 ghost use Rattle.arrayvec.specs.ArrayString.{array_string_len};
-ghost use Rattle.prof_desk.specs.Breaks.{broken_text, column_text, fault_text, rule_text, table_text, thread_text, row_text};
+ghost use Rattle.prof_desk.specs.Breaks.{break_text, broken_text, column_text, fault_text, rule_text, table_text, thread_text, row_text};
 
 use crate::lines::{Line, push_number};
 use arrayvec::ArrayString;
 use prof_json::JsonFault;
 use prof_tables::{Broken, Column, Rule, Table};
+
+/// Why a text isn't accepted.
+#[derive(Clone, Copy, Debug, PartialEq, Eq)]
+pub enum Break {
+    /// A fault of its JSON.
+    Json(JsonFault),
+    /// A rule that the profile breaks.
+    Rule(Broken),
+}
 
 /// A rule's name.
 fn rule_text(rule: Rule) -> &'static str
@@ -138,4 +147,15 @@ pub fn fault_text(fault: JsonFault) -> Line
         JsonFault::ReadFault | JsonFault::NoMemory => {}
     }
     line
+}
+
+/// Why a text isn't accepted, or nothing.
+pub fn break_text(broken: Option<Break>) -> Line
+    ensures { result.bytes ≡ break_text broken }
+{
+    match broken {
+        Some(Break::Json(fault)) => fault_text(fault),
+        Some(Break::Rule(broken)) => broken_text(broken),
+        None => ArrayString::new(),
+    }
 }

@@ -1,54 +1,25 @@
 // The top call.
-ghost use Rattle.std.specs.Prelude.{◌≡◌, ◌≢◌, ◌≤◌, ◌<◌, ◌↔◌, ◌⊎◌, None, Some, IfSome, IsSome, List, ℕ, length, []};
-ghost use Rattle.std.specs.Io.KnownBytes.{Appends};
-ghost use Rattle.prof_io.specs.Causes.{Rose};
-ghost use Rattle.prof_io.specs.Bytes.{AppendsPart};
-ghost use Rattle.prof_io.specs.Shelf.{file_at};
-ghost use Rattle.prof_tables.specs.Profiles.{ProfileTables};
-ghost use Rattle.prof_desk.specs.Output.{tree_replies, output_of};
-ghost use Rattle.prof_desk.specs.Playing.{text_in, IsOfText, IsBreak, IsOutput};
-ghost use Rattle.prof_desk.specs.Telling.{told, Tells};
-ghost use Rattle.prof_desk.specs.Words.{file_of, order_of, texts_of};
+ghost use Rattle.std.specs.Prelude.{◌≡◌, ◌↔◌, None, IfSome, false, [], Result, ⊤};
+ghost use Rattle.prof_io.specs.declared.copying.OutFault.{OutFault};
+ghost use Rattle.prof_desk.specs.Breaks.{break_text};
+ghost use Rattle.prof_desk.specs.Inputs.{name_at};
+ghost use Rattle.prof_desk.specs.Orders.{asks_hall, asks_keeper, files_of};
+ghost use Rattle.prof_io.specs.Outside.{kept, seen};
+ghost use Rattle.prof_desk.specs.Ran.{Carried, Does, Ran, outside};
+ghost use Rattle.prof_io.specs.Sinks.{Wrote};
+ghost use Rattle.prof_desk.specs.Telling.{refusal_status, told};
+ghost use Rattle.prof_desk.specs.Words.{order_of, texts_of};
 
 use crate::Status;
-use crate::breaks::{broken_text, fault_text};
-use crate::lines::Line;
+use crate::breaks::break_text;
+use crate::outcome::Outcome;
 use crate::playing::{PlayEnd, write_tree};
+use crate::reading::read_named;
 use crate::telling::tell;
 use crate::words::{Order, WordRefusal, read_words};
-use arrayvec::ArrayString;
-use prof_io::{Files, Hall, Keeper, Sink, Steps};
-use prof_read::{ReadRefusal, read_profile};
+use prof_io::{Files, Hall, Keeper, OutFault, Sink, Steps};
 use std::alloc::Global;
 use std::sync::ledger::Ledger;
-
-/// How an order ended, and what is told of a text that isn't accepted.
-#[derive(Drop)]
-struct Outcome {
-    status: Status,
-    broken: Line,
-}
-
-impl Outcome {
-    fn of(status: Status) -> Self
-        ensures { result.status ≡ status }
-    {
-        Outcome {
-            status,
-            broken: ArrayString::new(),
-        }
-    }
-
-    fn broken(broken: Line) -> Self
-        ensures status { result.status ≡ Status.Broken }
-        ensures text { result.broken.bytes ≡ broken.bytes }
-    {
-        Outcome {
-            status: Status::Broken,
-            broken,
-        }
-    }
-}
 
 /// Reads the profile of that name, and writes the tree of its first thread.
 fn tree_of<F: Files, S: Sink, L: Ledger>(
@@ -58,70 +29,81 @@ fn tree_of<F: Files, S: Sink, L: Ledger>(
     out: &mut S,
     reads: &mut Steps<L>,
 ) -> Outcome
-    ensures usage { result.status ≢ Status.Usage }
-    ensures hall_fault { result.status ≢ Status.HallFault }
-    ensures keeper_fault { result.status ≢ Status.KeeperFault }
-    ensures broken { result.status ≡ Status.Broken → IsBreak (text_in (F.place files.old) name.now) result.broken.bytes }
-    ensures quiet { result.status ≡ Status.Broken → F.faults files.new ≡ F.faults files.old }
-    ensures file { result.status ≡ Status.FileFault → Rose (F.place files.new).begun_at (F.faults files.new) }
-    ensures begun { F.faults files.old ≤ (F.place files.new).begun_at }
-    ensures out { result.status ≡ Status.OutFault → Rose (S.faults out.old) (S.faults out.new) }
-    ensures done { result.status ≡ Status.Done → (p : ProfileTables) × IsOfText (text_in (F.place files.old) name.now) p × Appends (S.written out.old) (S.written out.new) (tree_replies p.threads) }
-    ensures part { (text : List ℕ) × (((p : ProfileTables) × IsOfText (text_in (F.place files.old) name.now) p × (text ≡ tree_replies p.threads)) ⊎ (text ≡ [])) × AppendsPart (S.written out.old) (S.written out.new) text }
-    ensures sure { F.sure files.old → IfSome (F.place files.old).files (λ shelf. IsSome (file_at shelf name.now) → result.status ≢ Status.FileFault) }
-    ensures room { result.status ≡ Status.OutFault → (p : ProfileTables) × IfSome (S.room out.old) (λ room. room < length (tree_replies p.threads)) }
+    ensures { Does (Order.Tree name.now) (outside F.Counted S.Counted files.old out.old reads.old)
+        (outside F.Counted S.Counted files.new out.new reads.new) result }
 {
-    if files.begin(name).is_err() {
-        return Outcome::of(Status::FileFault);
-    }
-    match read_profile(alloc, files) {
-        Ok((profile, _, _)) => match write_tree(alloc, &profile, out, reads) {
-            Ok(()) => Outcome::of(Status::Done),
-            Err(PlayEnd::OutFault) => Outcome::of(Status::OutFault),
-            Err(PlayEnd::NoMemory) => Outcome::of(Status::NoMemory),
-        },
-        Err(ReadRefusal::Json(fault)) => Outcome::broken(fault_text(fault)),
-        Err(ReadRefusal::Broken(broken)) => Outcome::broken(broken_text(broken)),
-        Err(ReadRefusal::ReadFault) => Outcome::of(Status::FileFault),
-        Err(ReadRefusal::NoMemory) => Outcome::of(Status::NoMemory),
+    let profile = match read_named(alloc, name, files) {
+        Ok((profile, _, _)) => profile,
+        Err(stop) => return Outcome::stopped(0, stop),
+    };
+    match write_tree(alloc, &profile, out, reads) {
+        Ok(()) => Outcome::ended(1, Status::Done),
+        Err(PlayEnd::OutFault) => Outcome::ended(1, Status::OutFault),
+        Err(PlayEnd::NoMemory) => Outcome::ended(1, Status::NoMemory),
     }
 }
 
-/// Does what an order asks for, and tells how it ended.
-fn carry_out<F: Files, S: Sink, E: Sink, L: Ledger>(
+/// Does what an order asks for.
+fn carry_out<F: Files, H: Hall, K: Keeper, S: Sink, L: Ledger>(
     alloc: Global,
-    order: Order,
+    order: &Order,
     files: &mut F,
+    hall: &mut H,
+    keeper: &mut K,
     out: &mut S,
-    err: &mut E,
     reads: &mut Steps<L>,
-) -> Status
-    ensures usage { result ≢ Status.Usage }
-    ensures hall_fault { result ≢ Status.HallFault }
-    ensures keeper_fault { result ≢ Status.KeeperFault }
-    ensures broken { result ≡ Status.Broken → F.faults files.new ≡ F.faults files.old }
-    ensures file { result ≡ Status.FileFault → Rose (F.place files.new).begun_at (F.faults files.new) }
-    ensures begun { result ≡ Status.FileFault → F.faults files.old ≤ (F.place files.new).begun_at }
-    ensures out { result ≡ Status.OutFault → Rose (S.faults out.old) (S.faults out.new) }
-    ensures done { result ≡ Status.Done → (p : ProfileTables) × IsOfText (text_in (F.place files.old) (file_of order)) p × Appends (S.written out.old) (S.written out.new) (output_of order p) }
-    ensures part { (text : List ℕ) × IsOutput (text_in (F.place files.old) (file_of order)) order text × AppendsPart (S.written out.old) (S.written out.new) text }
-    ensures told { (broken : List ℕ) × (result ≡ Status.Broken → IsBreak (text_in (F.place files.old) (file_of order)) broken)
-        × Tells (E.written err.old) (E.written err.new) (E.faults err.old) (E.faults err.new) (told result (file_of order) broken) }
-    ensures sure { F.sure files.old → IfSome (F.place files.old).files (λ shelf. IsSome (file_at shelf (file_of order)) → result ≢ Status.FileFault) }
-    ensures room { result ≡ Status.OutFault → (p : ProfileTables) × IfSome (S.room out.old) (λ room. room < length (output_of order p)) }
+) -> Outcome
+    ensures carried { Carried order.now (outside F.Counted S.Counted files.old out.old reads.old)
+        (outside F.Counted S.Counted files.new out.new reads.new)
+        (kept K.Counted K.Keeper.own keeper.old) (kept K.Counted K.Keeper.own keeper.new)
+        (seen H.Counted hall.old) (seen H.Counted hall.new) result }
+    ensures hall { asks_hall order.now ≡ false → hall.new ≡ hall.old }
+    ensures keeper { asks_keeper order.now ≡ false → keeper.new ≡ keeper.old }
 {
-    let Order::Tree { profile } = order;
-    let outcome = tree_of(alloc, profile.as_str(), files, out, reads);
+    match order {
+        Order::Tree { profile } => tree_of(alloc, profile.as_str(), files, out, reads),
+    }
+}
+
+/// The name of the file behind so many.
+fn name_behind(order: &Order, accepted: usize) -> &str
+    ensures { result.now ≡ name_at (files_of order.now) accepted }
+{
+    match order {
+        Order::Tree { profile } if accepted == 0 => profile.as_str(),
+        Order::Tree { .. } => "",
+    }
+}
+
+/// Tells how an order ended.
+fn tell_end<E: Sink>(err: &mut E, order: &Order, end: Outcome) -> Result<(), OutFault>
+    ensures { Wrote (seen E.Counted err.old) (seen E.Counted err.new) result
+        (told end.status (name_at (files_of order.now) end.accepted) (break_text end.broken)) }
+{
+    let broken = break_text(end.broken);
     tell(
         err,
-        outcome.status,
-        profile.as_str(),
-        outcome.broken.as_str(),
-    );
-    outcome.status
+        end.status,
+        name_behind(order, end.accepted),
+        broken.as_str(),
+    )
 }
 
-/// Does what the words ask for.
+/// Tells that the words were refused, and says the status for it.
+pub fn refuse<E: Sink>(err: &mut E, refusal: WordRefusal) -> Status
+    ensures status { result ≡ refusal_status refusal }
+    ensures told { (telling : Result ⊤ OutFault)
+        × Wrote (seen E.Counted err.old) (seen E.Counted err.new) telling (told result [] []) }
+{
+    let status = match refusal {
+        WordRefusal::Usage => Status::Usage,
+        WordRefusal::NoMemory => Status::NoMemory,
+    };
+    let _ = tell(err, status, "", "");
+    status
+}
+
+/// Does what the words ask for, and tells how it ended.
 pub fn run<F: Files, H: Hall, K: Keeper, S: Sink, E: Sink, L: Ledger>(
     alloc: Global,
     words: &[String],
@@ -134,44 +116,29 @@ pub fn run<F: Files, H: Hall, K: Keeper, S: Sink, E: Sink, L: Ledger>(
 ) -> Status
     ensures usage { (result ≡ Status.Usage) ↔ (order_of (texts_of words.now) ≡ None) }
 
-    // A text that isn't accepted is told of only where no file failed.
-    ensures broken { result ≡ Status.Broken → F.faults files.new ≡ F.faults files.old }
+    // For an order: what it did to the outside, how it ended, and what was told.
+    ensures ran { IfSome (order_of (texts_of words.now)) (λ order. Ran order
+        (outside F.Counted S.Counted files.old out.old reads.old)
+        (outside F.Counted S.Counted files.new out.new reads.new)
+        (kept K.Counted K.Keeper.own keeper.old) (kept K.Counted K.Keeper.own keeper.new)
+        (seen H.Counted hall.old) (seen H.Counted hall.new)
+        (seen E.Counted err.old) (seen E.Counted err.new) result) }
+    ensures hall { IfSome (order_of (texts_of words.now)) (λ order.
+        asks_hall order ≡ false → hall.new ≡ hall.old) }
+    ensures keeper { IfSome (order_of (texts_of words.now)) (λ order.
+        asks_keeper order ≡ false → keeper.new ≡ keeper.old) }
 
-    // A file's fault was counted since the last file was begun, which was in this run.
-    ensures file { result ≡ Status.FileFault → Rose (F.place files.new).begun_at (F.faults files.new) }
-    ensures begun { result ≡ Status.FileFault → F.faults files.old ≤ (F.place files.new).begun_at }
-    ensures out { result ≡ Status.OutFault → Rose (S.faults out.old) (S.faults out.new) }
-
-    // What is written is the output for the profile of the file's text, or a part of it.
-    ensures done { result ≡ Status.Done → IfSome (order_of (texts_of words.now)) (λ order.
-        (p : ProfileTables) × IsOfText (text_in (F.place files.old) (file_of order)) p × Appends (S.written out.old) (S.written out.new) (output_of order p)) }
-    ensures part { IfSome (order_of (texts_of words.now)) (λ order.
-        (text : List ℕ) × IsOutput (text_in (F.place files.old) (file_of order)) order text × AppendsPart (S.written out.old) (S.written out.new) text) }
-    ensures unasked { order_of (texts_of words.now) ≡ None → out.new ≡ out.old }
-    ensures told { (broken : List ℕ) × IfSome (order_of (texts_of words.now)) (λ order. (result ≡ Status.Broken → IsBreak (text_in (F.place files.old) (file_of order)) broken)
-        × Tells (E.written err.old) (E.written err.new) (E.faults err.old) (E.faults err.new) (told result (file_of order) broken)) }
-    ensures usage_told { order_of (texts_of words.now) ≡ None → Tells (E.written err.old) (E.written err.new) (E.faults err.old) (E.faults err.new) (told Status.Usage [] []) }
-
-    ensures hall { hall.new ≡ hall.old }
-    ensures hall_fault { result ≢ Status.HallFault }
-    ensures keeper { keeper.new ≡ keeper.old }
-    ensures keeper_fault { result ≢ Status.KeeperFault }
-
-    // Where nothing fails, none of these is answered.
-    ensures sure { F.sure files.old → IfSome (F.place files.old).files (λ shelf. IfSome (order_of (texts_of words.now)) (λ order.
-        IsSome (file_at shelf (file_of order)) → result ≢ Status.FileFault)) }
-    ensures room { result ≡ Status.OutFault → IfSome (order_of (texts_of words.now)) (λ order.
-        (p : ProfileTables) × IfSome (S.room out.old) (λ room. room < length (output_of order p))) }
+    // Without one nothing is touched, and the usage is told.
+    ensures unasked { order_of (texts_of words.now) ≡ None → (files.new ≡ files.old) × (hall.new ≡ hall.old)
+        × (keeper.new ≡ keeper.old) × (out.new ≡ out.old) × (reads.new ≡ reads.old) }
+    ensures usage_told { order_of (texts_of words.now) ≡ None → (telling : Result ⊤ OutFault)
+        × Wrote (seen E.Counted err.old) (seen E.Counted err.new) telling (told Status.Usage [] []) }
 {
-    match read_words(alloc, words) {
-        Ok(order) => carry_out(alloc, order, files, out, err, reads),
-        Err(WordRefusal::Usage) => {
-            tell(err, Status::Usage, "", "");
-            Status::Usage
-        }
-        Err(WordRefusal::NoMemory) => {
-            tell(err, Status::NoMemory, "", "");
-            Status::NoMemory
-        }
-    }
+    let order = match read_words(alloc, words) {
+        Ok(order) => order,
+        Err(refusal) => return refuse(err, refusal),
+    };
+    let end = carry_out(alloc, &order, files, hall, keeper, out, reads);
+    let _ = tell_end(err, &order, end);
+    end.status
 }

@@ -16,10 +16,10 @@ pub fn opened_tree<L: Ledger>(
     thread: &Thread,
     reads: &mut Steps<L>,
 ) -> Result<Tree, NoMemory>
-    ensures nodes { IfOk result (λ tree. tree.nodes.items ≡ plain_tree thread.now fresh []) }
+    ensures nodes { IfOk result (λ tree. tree.nodes ≡ plain_tree thread.now fresh []) }
     ensures selected { IfOk result (λ tree. tree.selected ≡ selected_weight thread.now fresh []) }
     ensures dropped { IfOk result (λ tree. tree.dropped ≡ dropped_weight thread.now fresh []) }
-    ensures funcs { IfOk result (λ tree. HasFuncs thread.now tree.nodes.items) }
+    ensures funcs { IfOk result (λ tree. HasFuncs thread.now tree.nodes) }
     ensures once { reads.new ≤ reads.old + length thread.now.shared.stacks }
 {
     // What is known of the rows: their functions.

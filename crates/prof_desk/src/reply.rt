@@ -3,19 +3,20 @@ ghost use Rattle.std.specs.Prelude.{◌≡◌, ◌+◌, ◌<◌, ◌≤◌, leng
 ghost use Rattle.std.specs.List.{flat_map};
 ghost use Rattle.std.specs.Fmt.{decimal};
 ghost use Rattle.prof_desk.specs.Lines.{node_head, tree_head};
-ghost use Rattle.prof_desk.specs.Quoted.{quoted};
 ghost use Rattle.prof_desk.specs.Replies.{CanTell, HasFuncs, node_line, refusal_text, reply_bytes, tree_text, unit_text};
 ghost use Rattle.prof_desk.specs.Telling.{line};
-ghost use Rattle.prof_desk.specs.Writing.{Gathers, Writes};
+ghost use Rattle.prof_writer.specs.Writing.{quoted};
+ghost use Rattle.prof_io.specs.Outside.{seen};
+ghost use Rattle.prof_io.specs.Sinks.{Wrote};
+ghost use Rattle.prof_desk.specs.Writing.{Gathers};
 
 use crate::lines::{Line, node_head, push_number, tree_head};
 use crate::page::{Page, add_line, write_page};
-use crate::quoted::{plain_len, write_quoted};
-use crate::telling::put;
 use arrayvec::ArrayString;
-use prof_io::{OutFault, Sink};
+use prof_io::{OutFault, Sink, copy_out};
 use prof_tables::{Thread, Unit};
 use prof_tree::{Node, Tree};
+use prof_writer::{push_unescaped, write_string};
 
 /// Why a request was refused, with the value that its text gives.
 #[derive(Clone, Copy, Debug, PartialEq, Eq)]
@@ -52,24 +53,21 @@ fn short_line(node: Node, name: &str) -> Option<Line>
     ensures { IfSome result (λ line. line.bytes ≡ node_head node ++ (quoted name.now ++ codes "\n")) }
 {
     let mut line = node_head(node);
-    let room = line.remaining_capacity();
-    if name.len() + 3 > room || plain_len(name.as_bytes()) < name.len() {
+    if !push_unescaped(&mut line, name) || line.is_full() {
         return None;
     }
-    line.push_str("\"");
-    line.push_str(name);
-    line.push_str("\"\n");
+    line.push_str("\n");
     Some(line)
 }
 
 /// Writes a node's line in parts.
 fn write_long_line<S: Sink>(out: &mut S, node: Node, name: &str) -> Result<(), OutFault>
-    ensures { Writes (S.written out.old) (S.written out.new) (S.room out.old) (S.room out.new) (S.faults out.old) (S.faults out.new)
-        result (node_head node ++ (quoted name.now ++ codes "\n")) }
+    ensures { Wrote (seen S.Counted out.old) (seen S.Counted out.new) result
+        (node_head node ++ (quoted name.now ++ codes "\n")) }
 {
-    put(out, node_head(node).as_str().as_bytes())?;
-    write_quoted(out, name)?;
-    put(out, b"\n")
+    copy_out(out, node_head(node).as_str().as_bytes())?;
+    write_string(out, name)?;
+    copy_out(out, b"\n")
 }
 
 /// Adds a node's line to the page, or writes both, where the line is long.
@@ -80,8 +78,8 @@ fn add_node<S: Sink>(
     node: Node,
 ) -> Result<(), OutFault>
     requires { node.func < length thread.now.shared.funcs + length thread.now.shared.resources }
-    ensures { Gathers (S.written out.old) (S.written out.new) (S.room out.old) (S.room out.new) (S.faults out.old) (S.faults out.new)
-        result page.old.bytes (node_line thread.now.shared node) page.new.bytes }
+    ensures { Gathers (seen S.Counted out.old) (seen S.Counted out.new) result
+        page.old.bytes (node_line thread.now.shared node) page.new.bytes }
 {
     let name = thread.func_name(node.func);
     if let Some(line) = short_line(node, name) {
@@ -94,8 +92,8 @@ fn add_node<S: Sink>(
 /// Writes the lines of nodes, many at once.
 fn write_nodes<S: Sink>(out: &mut S, thread: &Thread, nodes: &[Node]) -> Result<(), OutFault>
     requires { HasFuncs thread.now nodes.now }
-    ensures { Writes (S.written out.old) (S.written out.new) (S.room out.old) (S.room out.new) (S.faults out.old) (S.faults out.new)
-        result (flat_map (node_line thread.now.shared) nodes.now) }
+    ensures { Wrote (seen S.Counted out.old) (seen S.Counted out.new) result
+        (flat_map (node_line thread.now.shared) nodes.now) }
 {
     let mut page = ArrayString::new();
     for node in nodes {
@@ -106,7 +104,8 @@ fn write_nodes<S: Sink>(out: &mut S, thread: &Thread, nodes: &[Node]) -> Result<
 
 /// The first line of a plain tree.
 fn plain_head(thread: &Thread, tree: &Tree) -> Line
-    ensures { result.bytes ≡ tree_head (codes "plain") (unit_text thread.now.unit) (length tree.now.nodes.items) tree.now.selected tree.now.dropped }
+    ensures { result.bytes ≡ tree_head (codes "plain") (unit_text thread.now.unit)
+        (length tree.now.nodes) tree.now.selected tree.now.dropped }
 {
     let unit = unit_text(thread.unit());
     tree_head("plain", unit, tree.nodes.len(), tree.selected, tree.dropped)
@@ -114,11 +113,11 @@ fn plain_head(thread: &Thread, tree: &Tree) -> Line
 
 /// Writes a plain tree.
 fn write_tree<S: Sink>(out: &mut S, thread: &Thread, tree: &Tree) -> Result<(), OutFault>
-    requires { HasFuncs thread.now tree.now.nodes.items }
-    ensures { Writes (S.written out.old) (S.written out.new) (S.room out.old) (S.room out.new) (S.faults out.old) (S.faults out.new)
-        result (tree_text thread.now tree.now.nodes.items tree.now.selected tree.now.dropped) }
+    requires { HasFuncs thread.now tree.now.nodes }
+    ensures { Wrote (seen S.Counted out.old) (seen S.Counted out.new) result
+        (tree_text thread.now tree.now.nodes tree.now.selected tree.now.dropped) }
 {
-    put(out, plain_head(thread, tree).as_str().as_bytes())?;
+    copy_out(out, plain_head(thread, tree).as_str().as_bytes())?;
     write_nodes(out, thread, &tree.nodes)
 }
 
@@ -152,12 +151,12 @@ pub fn reply_text<S: Sink>(
     out: &mut S,
 ) -> Result<(), OutFault>
     requires { CanTell (option_copied thread) reply.now }
-    ensures { Writes (S.written out.old) (S.written out.new) (S.room out.old) (S.room out.new) (S.faults out.old) (S.faults out.new)
-        result (reply_bytes (option_copied thread.entry) reply.now) }
+    ensures { Wrote (seen S.Counted out.old) (seen S.Counted out.new) result
+        (reply_bytes (option_copied thread.entry) reply.now) }
 {
     match reply {
-        Reply::Done { version } => put(out, done_text(*version).as_str().as_bytes()),
-        Reply::Refused(refusal) => put(out, refusal_text(*refusal).as_str().as_bytes()),
+        Reply::Done { version } => copy_out(out, done_text(*version).as_str().as_bytes()),
+        Reply::Refused(refusal) => copy_out(out, refusal_text(*refusal).as_str().as_bytes()),
         Reply::Tree(tree) => match thread {
             Some(thread) => write_tree(out, thread, tree),
             None => unreachable!(),

@@ -8,4 +8,5 @@ pub mod SoFar
 pub mod Skipped
 pub mod Values
 pub mod Turnings
+pub mod Behind
 pub mod Wholes

@@ -11,7 +11,8 @@ use Rattle.prof_json.specs.Tells.{rest, Tells, FailsBy}
 use Rattle.prof_json.specs.Tells as reader
 use Rattle.prof_json.specs.declared.answer.JsonFault.{JsonFault}
 use Rattle.prof_json.specs.declared.answer.JsonFault.TheVariants.{NotJson, TooDeep, TooLong, ReadFault, NoMemory}
-use Rattle.prof_gather.specs.Reading.{longest, rest_of, Comes, Ends, IsEnding, IsSoFar, EndsBy, IsOfReading}
+use Rattle.prof_grammar.specs.declared.TheConstants.{LONGEST}
+use Rattle.prof_gather.specs.Reading.{rest_of, Comes, Ends, IsEnding, IsSoFar, EndsBy, IsOfReading}
 use Rattle.prof_gather.proofs.Comings.{tell-append}
 
 -- what comes next, as the reader tells it
@@ -35,7 +36,7 @@ pub so_far_more : (p q : Position) (text left left' : Option (List ℕ)) (es : L
 so_far_more p q text left left' es first none s t = subst (λ o. IsOfReading o text q left') (sym none) (more p q text left left' es (sound p.fault text left p first s) t)
 
 -- how the text's reading ends, by what is still to be read
-ending_on : (p : Position) (b l : List ℕ) (es : List told.Event) → reading longest 0 start b ≡ tell es (rest p l) → (reading longest 0 start b).ending ≡ (rest p l).ending
+ending_on : (p : Position) (b l : List ℕ) (es : List told.Event) → reading LONGEST 0 start b ≡ tell es (rest p l) → (reading LONGEST 0 start b).ending ≡ (rest p l).ending
 ending_on p b l es e = ap (λ (r : Reading). r.ending) e
 
 fails : (f : JsonFault) (p : Position) (text left : Option (List ℕ)) → IsSoFar text p left → FailsBy f p left → EndsBy f text

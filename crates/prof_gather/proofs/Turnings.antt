@@ -105,25 +105,11 @@ scalar_behind e t (inr (inr (inl h))) g = let b = subst (λ x. IsBegun x t) h g 
 scalar_behind e t (inr (inr (inr (inl h)))) g = let b = subst (λ x. IsBegun x t) h g in (Value.boolean false, record { begins = record { first = told.truth false; others = []; last = b; is = refl }; told = comes_here t.rest })
 scalar_behind e t (inr (inr (inr (inr h)))) g = let b = subst (λ x. IsBegun x t) h g in (Value.null, record { begins = record { first = told.null; others = []; last = b; is = refl }; told = comes_here t.rest })
 
--- ---- members' values
-
-pub object_reads : (old now new : Told) (ms : Members) → Gives old event.ObjectStart now → ReadsMembers now new ms → Reads old new (Value.object ms)
-object_reads old now new ms g r = record { told = comes_trans old.rest now.rest new.rest (told.object_start ∷ []) (flatten_members ms ++ told.object_end ∷ []) g.rest r.told }
-
-pub array_reads : (old now new : Told) (vs : Values) → Gives old event.ArrayStart now → ReadsItems now new vs → Reads old new (Value.array vs)
-array_reads old now new vs g r = record { told = comes_trans old.rest now.rest new.rest (told.array_start ∷ []) (flatten_values vs ++ told.array_end ∷ []) g.rest r.told }
-
 -- a value of one event, which is neither an object, an array nor null
 pub data IsOther : Value → Type 0 where
   string : {t : List ℕ} → IsOther (Value.string t)
   number : {t : List ℕ} → IsOther (Value.number t)
   boolean : {b : Bool} → IsOther (Value.boolean b)
-
-pub other_reads : (e : Event) (old new : Told) → ((e ≡ event.Str) ⊎ ((e ≡ event.Number) ⊎ ((e ≡ event.True) ⊎ (e ≡ event.False)))) → Gives old e new → (v : Value) × Reads old new v × IsOther v
-other_reads e old new (inl h) g = let b = subst (λ x. Gives old x new) h g in (Value.string b.0, record { told = b.1.rest }, string)
-other_reads e old new (inr (inl h)) g = let b = subst (λ x. Gives old x new) h g in (Value.number b.0, record { told = b.1.rest }, number)
-other_reads e old new (inr (inr (inl h))) g = let b = subst (λ x. Gives old x new) h g in (Value.boolean true, record { told = b.rest }, boolean)
-other_reads e old new (inr (inr (inr h))) g = let b = subst (λ x. Gives old x new) h g in (Value.boolean false, record { told = b.rest }, boolean)
 
 pub other_found : {T : Type 0} (Is : Members → T → Type 0) (v : Value) → IsOther v → IsFound Is v found.Other
 other_found Is v string = refl

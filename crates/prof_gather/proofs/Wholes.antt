@@ -3,16 +3,17 @@ use Rattle.std.proofs.Common.{true, false, ◌≡◌, ◌≢◌, ℕ, List, [], 
 use Rattle.std.specs.Prelude.{Option, Some, None, IfSome}
 use Rattle.prof_grammar.specs.Event as told
 use Rattle.prof_grammar.specs.Machine.{start}
-use Rattle.prof_grammar.specs.Reading.{IsShallow, IsReading, finished}
+use Rattle.prof_grammar.specs.Reading.{IsReading, finished}
 use Rattle.prof_grammar.specs.Told.{Reading, reading, tell, stop}
 use Rattle.prof_grammar.specs.Value.{Value, flatten}
+use Rattle.prof_grammar.specs.Accepted.{IsAccepted}
+use Rattle.prof_grammar.specs.declared.TheConstants.{LONGEST}
 use Rattle.prof_json.specs.declared.answer.Event.{Event}
 use Rattle.prof_json.specs.declared.answer.Event.TheVariants as event
 use Rattle.prof_gather.specs.Feeding.{Told, Gives, Tells, IsOver, step}
 use Rattle.prof_json.specs.Position.{Position, fresh}
 use Rattle.prof_grammar.proofs.Ended.{reads_right}
-use Rattle.prof_grammar.proofs.OneEnding.{when_finished}
-use Rattle.prof_gather.specs.Reading.{longest, rest_of, Comes, Ends}
+use Rattle.prof_gather.specs.Reading.{rest_of, Comes, Ends}
 use Rattle.prof_gather.specs.Taking.{Reads}
 use Rattle.prof_gather.specs.Whole.{IsAll}
 
@@ -39,17 +40,16 @@ all_of (Some r) (Some s) v c e = c ∙ ap (tell (flatten v)) e
 pub is_all : (old now new : Told) (v : Value) (e : Event) → Reads old now v → now.frames ≡ [] → Gives now e new → IsAll old.rest v
 is_all old now new v e r f g = all_of old.rest now.rest v r.told (over e now new f g).whole
 
--- a text whose value is all that is read of it is a JSON text of that value
-shallow : (t : List ℕ) (v : Value) → reading longest 0 start t ≡ tell (flatten v) (stop finished) → IsShallow t (flatten v)
-shallow t v e =
-    let is : IsReading longest t (reading longest 0 start t).events (reading longest 0 start t).ending = reads_right longest t in
-    let told_all : (reading longest 0 start t).events ≡ flatten v = ap (λ (r : Reading). r.events) e ∙ append-nil (flatten v) in
-    let ended : (reading longest 0 start t).ending ≡ finished = ap (λ (r : Reading). r.ending) e in
-    let whole : IsReading longest t (flatten v) finished = subst (λ x. IsReading longest t x finished) told_all (subst (λ x. IsReading longest t (reading longest 0 start t).events x) ended is) in
-    (when_finished longest t (flatten v) whole).0
+-- a text whose value is all that is read of it is accepted
+accepted : (t : List ℕ) (v : Value) → reading LONGEST 0 start t ≡ tell (flatten v) (stop finished) → IsAccepted t v
+accepted t v e =
+    let is : IsReading LONGEST t (reading LONGEST 0 start t).events (reading LONGEST 0 start t).ending = reads_right LONGEST t in
+    let told_all : (reading LONGEST 0 start t).events ≡ flatten v = ap (λ (r : Reading). r.events) e ∙ append-nil (flatten v) in
+    let ended : (reading LONGEST 0 start t).ending ≡ finished = ap (λ (r : Reading). r.ending) e in
+    subst (λ x. IsReading LONGEST t x finished) told_all (subst (λ x. IsReading LONGEST t (reading LONGEST 0 start t).events x) ended is)
 
-pub whole_text : (P : Value → Type 0) (text left : Option (List ℕ)) (p : Position) → p ≡ fresh longest → text ≡ left → (v : Value) × IsAll (rest_of p left) v × P v → IfSome text (λ t. (v : Value) × IsShallow t (flatten v) × P v)
+pub whole_text : (P : Value → Type 0) (text left : Option (List ℕ)) (p : Position) → p ≡ fresh LONGEST → text ≡ left → (v : Value) × IsAll (rest_of p left) v × P v → IfSome text (λ t. (v : Value) × IsAccepted t v × P v)
 whole_text P None left p e f h = tt
 whole_text P (Some t) left p e f h =
-    let all : IsAll (rest_of (fresh longest) (Some t)) h.0 = subst (λ (o : Option (List ℕ)). IsAll (rest_of (fresh longest) o) h.0) (sym f) (subst (λ (q : Position). IsAll (rest_of q left) h.0) e h.1) in
-    (h.0, shallow t h.0 all, h.2)
+    let all : IsAll (rest_of (fresh LONGEST) (Some t)) h.0 = subst (λ (o : Option (List ℕ)). IsAll (rest_of (fresh LONGEST) o) h.0) (sym f) (subst (λ (q : Position). IsAll (rest_of q left) h.0) e h.1) in
+    (h.0, accepted t h.0 all, h.2)

@@ -3,7 +3,8 @@ use Rattle.std.specs.Prelude.{◌≡◌, ℕ, ◌≤◌, List, Option, Some, Non
 use Rattle.prof_io.specs.Causes.{Rose}
 use Rattle.prof_io.specs.Shelf.{Place}
 use Rattle.prof_grammar.specs.Event as told
-use Rattle.prof_gather.specs.Reading.{longest, IsOfReading}
+use Rattle.prof_grammar.specs.declared.TheConstants.{LONGEST}
+use Rattle.prof_gather.specs.Reading.{IsOfReading}
 use Rattle.prof_json.specs.Nest.{Occurs}
 use Rattle.prof_json.specs.declared.nesting.Phase.{Phase}
 use Rattle.prof_json.specs.declared.nesting.Phase.TheVariants as phase
@@ -39,7 +40,7 @@ pub record IsKept (p : Position) (text left : Option (List ℕ)) (wrote first_wr
   pub nest : p.fault ≡ None → Occurs p.nest.phase p.nest.open_
   pub behind : p.fault ≡ None → IsBehind p.last p.nest.phase
   pub within : p.place ≤ p.limit
-  pub most : p.limit ≡ longest
+  pub most : p.limit ≡ LONGEST
   pub reads : IsOfReading p.fault text p left
   pub written : wrote ≡ first_wrote
   pub stays : stand ≡ first_stand

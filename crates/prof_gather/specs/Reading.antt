@@ -4,15 +4,12 @@ use Rattle.prof_grammar.specs.Event.{Event}
 use Rattle.prof_grammar.specs.Machine.{start}
 use Rattle.prof_grammar.specs.Reading.{Ending, finished, not_json, too_deep, too_long}
 use Rattle.prof_grammar.specs.Told.{Reading, reading, tell, stop}
+use Rattle.prof_grammar.specs.declared.TheConstants.{LONGEST}
 use Rattle.prof_json.specs.Ahead.{Knows}
 use Rattle.prof_json.specs.Position.{Position}
 use Rattle.prof_json.specs.Tells.{rest}
 use Rattle.prof_json.specs.declared.answer.JsonFault.{JsonFault}
 use Rattle.prof_json.specs.declared.answer.JsonFault.TheVariants.{NotJson, TooDeep, TooLong, ReadFault, NoMemory}
-
--- the longest text that is read, in bytes
-abbrev pub longest : ℕ
-longest = 268435456
 
 -- what is read from a reader's position on, where the source tells its bytes
 abbrev pub rest_of : Position → Option (List ℕ) → Option Reading
@@ -40,11 +37,11 @@ IsEnding NoMemory e = ⊤
 
 -- what was read of the text so far comes before what is still to be read
 abbrev pub IsSoFar : Option (List ℕ) → Position → Option (List ℕ) → Type 0
-IsSoFar text p left = Knows (λ bytes others. (es : List Event) × (reading longest 0 start bytes ≡ tell es (rest p others))) text left
+IsSoFar text p left = Knows (λ bytes others. (es : List Event) × (reading LONGEST 0 start bytes ≡ tell es (rest p others))) text left
 
 -- the text's reading ends by the fault
 abbrev pub EndsBy : JsonFault → Option (List ℕ) → Type 0
-EndsBy f text = IfSome text (λ bytes. IsEnding f (reading longest 0 start bytes).ending)
+EndsBy f text = IfSome text (λ bytes. IsEnding f (reading LONGEST 0 start bytes).ending)
 
 -- The position is one of this text: what was read comes before what is to be read, and a fault is the text's own.
 abbrev pub IsOfReading : Option JsonFault → Option (List ℕ) → Position → Option (List ℕ) → Type 0

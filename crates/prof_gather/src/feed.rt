@@ -13,9 +13,6 @@ use prof_json::{Event, Reader};
 use std::alloc::Global;
 use std::marker::Model;
 
-/// The longest text that is read, in bytes.
-pub const LONGEST: u64 = 268_435_456;
-
 /// A text that is read event by event. Its bytes come from a source that was as `W` says when the reading began.
 #[derive(Drop)]
 pub struct Feed<R: Source, W: Start> {

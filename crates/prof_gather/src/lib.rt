@@ -10,6 +10,9 @@ mod whole;
 
 pub use feed::Feed;
 pub use hashed::Start;
-pub use objects::{Found, FromItems, FromMembers, Kind, array, members, object, skip_behind};
+pub use objects::{
+    Found, FromItems, FromMembers, Kind, array, array_behind, items, members, object,
+    object_behind, skip_behind,
+};
 pub use refusal::GatherRefusal;
-pub use whole::{Digest, read_object};
+pub use whole::read_object;

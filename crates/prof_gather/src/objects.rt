@@ -28,10 +28,6 @@ pub trait FromMembers: Drop {
     /// It is what is gathered of these members.
     ghost is: { Members → Self → Type 0 };
 
-    /// No member was there yet.
-    fn none(alloc: Global) -> Self
-        ensures { Self.is no_members result };
-
     /// Reads the value of the member that was named.
     fn take_member<R: Source, W: Start>(
         &mut self,
@@ -90,17 +86,19 @@ pub fn skip_behind<R: Source, W: Start>(
     }
 }
 
-/// Reads the members of an object, which has begun, and its end.
+/// Reads the members of an object, which has begun, and its end. They are gathered from `begun` on, of no member.
 pub fn members<T: FromMembers, R: Source, W: Start>(
     alloc: Global,
     feed: &mut Feed<R, W>,
+    begun: T,
 ) -> Result<T, GatherRefusal>
-    requires { IsWithin in_object feed.old }
+    requires within { IsWithin in_object feed.old }
+    requires none { T.is no_members begun }
     ensures ok { OnOk result (Passes feed.old feed.new) }
     ensures members { IfOk result (λ found. (ms : Members) × ReadsMembers feed.old feed.new ms × T.is ms found) }
     ensures err { IfErr result (λ r. Refuses r feed.new) }
 {
-    let mut found = T::none(alloc);
+    let mut found = begun;
     'members: loop {
         let event = feed.next(alloc)?;
         match event {
@@ -133,20 +131,22 @@ pub fn items<T: FromItems, R: Source, W: Start>(
     }
 }
 
-/// Reads a member's value as an object.
-pub fn object<T: FromMembers, R: Source, W: Start>(
+/// Reads the value that this event has begun as an object, whose members are gathered from `begun` on.
+pub fn object_behind<T: FromMembers, R: Source, W: Start>(
     alloc: Global,
     feed: &mut Feed<R, W>,
+    first: Event,
+    begun: T,
 ) -> Result<Found<T>, GatherRefusal>
-    requires { IsWithin in_member feed.old }
-    ensures ok { OnOk result (Passes feed.old feed.new) }
-    ensures value { IfOk result (λ found. (v : Value) × Reads feed.old feed.new v × IsFound T.is v found) }
+    requires event { IsBegun first feed.old }
+    requires none { T.is no_members begun }
+    ensures ok { OnOk result (Finishes first feed.old feed.new) }
+    ensures value { IfOk result (λ found. (v : Value) × ReadsOn feed.old feed.new v × IsFound T.is v found) }
     ensures err { IfErr result (λ r. Refuses r feed.new) }
 {
-    let first = feed.next(alloc)?;
     match first {
         Event::ObjectStart => {
-            let found = members(alloc, feed)?;
+            let found = members(alloc, feed, begun)?;
             Ok(Found::Object(found))
         }
         Event::Null => Ok(Found::Null),
@@ -157,6 +157,50 @@ pub fn object<T: FromMembers, R: Source, W: Start>(
         Event::Str | Event::Number | Event::True | Event::False => Ok(Found::Other),
         Event::Name | Event::ObjectEnd | Event::ArrayEnd | Event::End => unreachable!(),
     }
+}
+
+/// Reads the value that this event has begun as an array, whose items go into the list, and says whether it is one.
+pub fn array_behind<T: FromItems, R: Source, W: Start>(
+    alloc: Global,
+    feed: &mut Feed<R, W>,
+    first: Event,
+    list: &mut T,
+) -> Result<Kind, GatherRefusal>
+    requires event { IsBegun first feed.old }
+    requires begun { T.is list.old [] list.old }
+    ensures ok { OnOk result (Finishes first feed.old feed.new) }
+    ensures value { IfOk result (λ kind. (v : Value) × ReadsOn feed.old feed.new v × IsTaken T.is v list.old kind list.new) }
+    ensures err { IfErr result (λ r. Refuses r feed.new) }
+{
+    match first {
+        Event::ArrayStart => {
+            items(alloc, feed, list)?;
+            Ok(Kind::Array)
+        }
+        Event::Null => Ok(Kind::Null),
+        Event::ObjectStart => {
+            feed.skip_object(alloc)?;
+            Ok(Kind::Other)
+        }
+        Event::Str | Event::Number | Event::True | Event::False => Ok(Kind::Other),
+        Event::Name | Event::ObjectEnd | Event::ArrayEnd | Event::End => unreachable!(),
+    }
+}
+
+/// Reads a member's value as an object, whose members are gathered from `begun` on.
+pub fn object<T: FromMembers, R: Source, W: Start>(
+    alloc: Global,
+    feed: &mut Feed<R, W>,
+    begun: T,
+) -> Result<Found<T>, GatherRefusal>
+    requires within { IsWithin in_member feed.old }
+    requires none { T.is no_members begun }
+    ensures ok { OnOk result (Passes feed.old feed.new) }
+    ensures value { IfOk result (λ found. (v : Value) × Reads feed.old feed.new v × IsFound T.is v found) }
+    ensures err { IfErr result (λ r. Refuses r feed.new) }
+{
+    let first = feed.next(alloc)?;
+    object_behind(alloc, feed, first, begun)
 }
 
 /// Reads a member's value as an array, whose items go into the list, and says whether it is one.
@@ -172,19 +216,7 @@ pub fn array<T: FromItems, R: Source, W: Start>(
     ensures err { IfErr result (λ r. Refuses r feed.new) }
 {
     let first = feed.next(alloc)?;
-    match first {
-        Event::ArrayStart => {
-            items(alloc, feed, list)?;
-            Ok(Kind::Array)
-        }
-        Event::Null => Ok(Kind::Null),
-        Event::ObjectStart => {
-            feed.skip_object(alloc)?;
-            Ok(Kind::Other)
-        }
-        Event::Str | Event::Number | Event::True | Event::False => Ok(Kind::Other),
-        Event::Name | Event::ObjectEnd | Event::ArrayEnd | Event::End => unreachable!(),
-    }
+    array_behind(alloc, feed, first, list)
 }
 
 /// What a member's value is, where an array is looked for.

@@ -1,68 +1,57 @@
 //! A whole text, gathered as an object.
 ghost use Rattle.std.specs.Prelude.{◌≡◌, ◌≤◌, ◌≢◌, [], None, Some, Ok, Err, IfOk, IfErr, IfSome, OnOk};
 ghost use Rattle.std.specs.Io.KnownBytes.{IsAtEnd};
-ghost use Rattle.prof_grammar.specs.Reading.{IsShallow};
-ghost use Rattle.prof_grammar.specs.Value.{Value, flatten};
+ghost use Rattle.prof_grammar.specs.Accepted.{IsAccepted};
+ghost use Rattle.prof_grammar.specs.Value.{Value, no_members};
 ghost use Rattle.prof_json.specs.Position.{fresh};
 ghost use Rattle.prof_gather.specs.Causes.{IsCaused};
 ghost use Rattle.prof_gather.specs.Feeding.{Refuses, IsFresh};
-ghost use Rattle.prof_gather.specs.Reading.{longest};
 ghost use Rattle.prof_gather.specs.Taking.{Reads, IsFound};
 ghost use Rattle.prof_gather.specs.Whole.{IsAll};
 ghost use Rattle.sha2.specs.Sha256.{sha256};
 
 use crate::GatherRefusal;
-use crate::feed::{Feed, LONGEST};
+use crate::feed::Feed;
 use crate::hashed::{Hashed, Start};
 use crate::lent::Lent;
-use crate::objects::{Found, FromMembers, members};
-use prof_io::Source;
-use prof_json::{Event, Reader};
+use crate::objects::{Found, FromMembers, object_behind};
+use prof_grammar::LONGEST;
+use prof_io::{Digest, Source};
+use prof_json::Reader;
 use sha2::{Digest as _, Sha256};
 use std::alloc::Global;
 use std::marker::{Brand, PhantomData};
-
-/// A SHA-256.
-pub type Digest = [u8; 32];
 
 /// Reads the value of the whole text.
 fn top_value<T: FromMembers, R: Source, W: Start>(
     alloc: Global,
     feed: &mut Feed<R, W>,
+    begun: T,
 ) -> Result<Found<T>, GatherRefusal>
-    requires { IsFresh feed.old }
+    requires fresh { IsFresh feed.old }
+    requires none { T.is no_members begun }
     ensures ok { OnOk result (feed.new.frames ≡ []) }
     ensures value { IfOk result (λ found. (v : Value) × Reads feed.old feed.new v × IsFound T.is v found) }
     ensures err { IfErr result (λ r. Refuses r feed.new) }
 {
     let first = feed.next(alloc)?;
-    match first {
-        Event::ObjectStart => {
-            let found = members(alloc, feed)?;
-            Ok(Found::Object(found))
-        }
-        Event::Null => Ok(Found::Null),
-        Event::ArrayStart => {
-            feed.skip_array(alloc)?;
-            Ok(Found::Other)
-        }
-        Event::Str | Event::Number | Event::True | Event::False => Ok(Found::Other),
-        Event::Name | Event::ObjectEnd | Event::ArrayEnd | Event::End => unreachable!(),
-    }
+    object_behind(alloc, feed, first, begun)
 }
 
 /// Reads the value of the whole text, and the text's end.
 fn whole_value<T: FromMembers, R: Source, W: Start>(
     alloc: Global,
     feed: &mut Feed<R, W>,
+    begun: T,
 ) -> Result<Found<T>, GatherRefusal>
-    requires { IsFresh feed.old }
+    requires fresh { IsFresh feed.old }
+    requires none { T.is no_members begun }
     ensures ok { OnOk result (IsAtEnd feed.new.left) }
     ensures sound { OnOk result (feed.new.fault ≡ None) }
     ensures value { IfOk result (λ found. (v : Value) × IsAll feed.old.rest v × IsFound T.is v found) }
     ensures err { IfErr result (λ r. Refuses r feed.new) }
 {
-    let found = top_value(alloc, feed)?;
+    let found = top_value(alloc, feed, begun)?;
     let _end = feed.next(alloc)?;
     Ok(found)
 }
@@ -79,8 +68,10 @@ fn gather<T: FromMembers, R: Source, W: Start>(
     alloc: Global,
     reader: Reader,
     src: R,
+    begun: T,
 ) -> (Result<(Found<T>, Digest), GatherRefusal>, R)
-    requires fresh { reader ≡ fresh longest }
+    requires none { T.is no_members begun }
+    requires fresh { reader ≡ fresh LONGEST }
     requires text { W.text ≡ R.left src }
     requires written { W.written ≡ R.written src }
     requires place { W.place ≡ R.place src }
@@ -95,7 +86,7 @@ fn gather<T: FromMembers, R: Source, W: Start>(
     ensures calm { OnOk result.0 (R.faults result.1 ≡ W.faults) }
     ensures end { OnOk result.0 (IsAtEnd (R.left result.1)) }
     ensures digest { IfOk result.0 (λ r. IfSome W.text (λ text. r.1 ≡ sha256 text)) }
-    ensures value { IfOk result.0 (λ r. IfSome W.text (λ text. (v : Value) × IsShallow text (flatten v) × IsFound T.is v r.0)) }
+    ensures value { IfOk result.0 (λ r. IfSome W.text (λ text. (v : Value) × IsAccepted text v × IsFound T.is v r.0)) }
 {
     let hashed: Hashed<R, W> = Hashed {
         src,
@@ -106,7 +97,7 @@ fn gather<T: FromMembers, R: Source, W: Start>(
         reader,
         src: hashed,
     };
-    let found = whole_value(alloc, &mut feed);
+    let found = whole_value(alloc, &mut feed, begun);
     let Feed {
         reader: _reader,
         src: hashed,
@@ -123,12 +114,14 @@ fn gather<T: FromMembers, R: Source, W: Start>(
     }
 }
 
-/// Reads a text of at most 268,435,456 bytes to its end, gathers the members of its value, which should be an object, and
-/// hashes all its bytes.
+/// Reads a text to its end, which is accepted where it has at most 268,435,456 bytes, and gathers the members of its value,
+/// which should be an object, from `begun` on. Hashes all bytes of the text.
 pub fn read_object<T: FromMembers, S: Source>(
     alloc: Global,
     src: &mut S,
+    begun: T,
 ) -> Result<(Found<T>, Digest), GatherRefusal>
+    requires { T.is no_members begun }
     ensures written { S.written src.new ≡ S.written src.old }
     ensures place { S.place src.new ≡ S.place src.old }
     ensures later { S.faults src.old ≤ S.faults src.new }
@@ -138,11 +131,11 @@ pub fn read_object<T: FromMembers, S: Source>(
     ensures calm { OnOk result (S.faults src.new ≡ S.faults src.old) }
     ensures end { OnOk result (IsAtEnd (S.left src.new)) }
     ensures digest { IfSome (S.left src.old) (λ text. IfOk result (λ r. r.1 ≡ sha256 text)) }
-    ensures value { IfSome (S.left src.old) (λ text. IfOk result (λ r. (v : Value) × IsShallow text (flatten v) × IsFound T.is v r.0)) }
+    ensures value { IfSome (S.left src.old) (λ text. IfOk result (λ r. (v : Value) × IsAccepted text v × IsFound T.is v r.0)) }
 {
     let reader = Reader::new(alloc, LONGEST)?;
     let lent = Lent { src };
-    let (gathered, lent) = gather::<T, Lent<'_, S>, Brand>(alloc, reader, lent);
+    let (gathered, lent) = gather::<T, Lent<'_, S>, Brand>(alloc, reader, lent, begun);
     let Lent { src } = lent;
     give_back(src);
     gathered

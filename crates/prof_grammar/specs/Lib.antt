@@ -6,4 +6,5 @@ pub mod Machine
 pub mod Told
 pub mod Texts
 pub mod Value
+pub mod Accepted
 pub mod Samples

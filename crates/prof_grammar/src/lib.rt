@@ -10,6 +10,9 @@ ghost use Rattle.prof_grammar.specs.Texts.{IsWellTold};
 ghost use Rattle.prof_grammar.specs.Told.{reading};
 ghost use Rattle.prof_grammar.specs.Value.{Value, flatten};
 
+/// The longest text that is read, in bytes.
+pub const LONGEST: u64 = 268_435_456;
+
 /// The machine tells the events of each JSON text, and of no other.
 pub fn tells_json()
     ensures { (text : List ℕ) (es : List Event) → IsJson text es ↔ (run start text ≡ Some es) }

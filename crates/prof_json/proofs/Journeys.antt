@@ -2,8 +2,9 @@
 use Rattle.std.proofs.Common.{◌≡◌, ℕ, ◌+◌, ◌-◌, ◌≤◌, List, [], ◌++◌, length, take, drop, refl, sym, ap, ◌∙◌, arith, inl, inr}
 use Rattle.std.specs.Prelude.{Option, Some, None, Result, Ok, Err, OnOk, IfErr, IfOk, ◌<◌, ◌⊎◌}
 use Rattle.std.proofs.lemmas.List.{append_assoc, length-append, take-append-drop, length-take, length-drop}
+use Rattle.prof_io.specs.Outside.{Seen}
 use Rattle.prof_json.specs.Ahead.{Ahead, IsSame, Passes}
-use Rattle.prof_json.specs.Moves.{Lent, Moves, Reads, Blames, fault_of}
+use Rattle.prof_json.specs.Moves.{Moves, Reads, Blames, fault_of}
 use Rattle.prof_json.specs.declared.answer.JsonFault.{JsonFault}
 use Rattle.prof_json.specs.declared.answer.JsonFault.TheVariants.{NotJson, TooDeep, TooLong, ReadFault, NoMemory}
 
@@ -23,15 +24,15 @@ reads_trans x y z p q r (Some l) (Some m) (Some n) h k = record {
 }
 
 -- no byte was passed
-pub moves_of : (o : Option JsonFault) (sure sure' : Type 0) (a b : Ahead) (s t : Lent) → IsSame a s.left b t.left → length b.bytes ≤ 65536 → t.written ≡ s.written → t.place ≡ s.place →
-    s.faults ≤ t.faults → (sure → sure') → Blames o sure s.faults t.faults b.place b.limit → Moves o sure a s sure' b t
-moves_of o sure sure' a b s t h n w p m2 f g =
+pub moves_of : (o : Option JsonFault) (a b : Ahead) (s t : Seen) → IsSame a s.left b t.left → length b.bytes ≤ 65536 → t.written ≡ s.written → t.place ≡ s.place →
+    s.faults ≤ t.faults → (s.sure → t.sure) → Blames o s.sure s.faults t.faults b.place b.limit → Moves o a s b t
+moves_of o a b s t h n w p m2 f g =
     let e = h.place in
     let m = h.limit in
     record { limit = h.limit; on = omega arith; within = λ k. omega arith; near = λ _. n; reads = reads_same a b s.left t.left h; written = w; stays = p; later = m2; steady = f; blame = g }
 
-pub moves_here : (sure : Type 0) (a : Ahead) (s : Lent) → Moves None sure a s sure a s
-moves_here sure a s = record { limit = refl; on = omega arith; within = λ k. k; near = λ h. h; reads = here s.left; written = refl; stays = refl; later = omega arith; steady = λ h. h; blame = refl }
+pub moves_here : (a : Ahead) (s : Seen) → Moves None a s a s
+moves_here a s = record { limit = refl; on = omega arith; within = λ k. k; near = λ h. h; reads = here s.left; written = refl; stays = refl; later = omega arith; steady = λ h. h; blame = refl }
   where
     here : (l : Option (List ℕ)) → Reads a.bytes a.place l a.bytes a.place l
     here None = tt
@@ -45,8 +46,8 @@ blames_on (Some TooLong) sure sure' k m n place limit f e h = (h.0 ∙ e, h.1)
 blames_on (Some ReadFault) sure sure' k m n place limit f e h = (let r = h.0 in omega arith, λ s. h.1 (f s))
 blames_on (Some NoMemory) sure sure' k m n place limit f e h = h ∙ e
 
-pub moves_trans : {o : Option JsonFault} {x y z : Type 0} {a b c : Ahead} {s t u : Lent} → Moves None x a s y b t → Moves o y b t z c u → Moves o x a s z c u
-moves_trans {o} {x} {y} {z} {a} {b} {c} {s} {t} {u} h k =
+pub moves_trans : {o : Option JsonFault} {a b c : Ahead} {s t u : Seen} → Moves None a s b t → Moves o b t c u → Moves o a s c u
+moves_trans {o} {a} {b} {c} {s} {t} {u} h k =
     let p = h.on in
     let q = k.on in
     record {
@@ -59,7 +60,7 @@ moves_trans {o} {x} {y} {z} {a} {b} {c} {s} {t} {u} h k =
       stays = k.stays ∙ h.stays;
       later = let u = h.later in let v = k.later in omega arith;
       steady = λ s. k.steady (h.steady s);
-      blame = blames_on o x y s.faults t.faults u.faults c.place c.limit h.steady h.blame k.blame;
+      blame = blames_on o s.sure t.sure s.faults t.faults u.faults c.place c.limit h.steady h.blame k.blame;
     }
 
 reads_pass : (x y : List ℕ) (n p q : ℕ) (l : Option (List ℕ)) → y ≡ drop n x → q ≡ p + n → n ≤ length x → Reads x p l y q l
@@ -71,22 +72,22 @@ reads_pass x y n p q (Some l) d e h = record {
 }
 
 -- bytes ahead were passed
-pub moves_pass : {n : ℕ} {x y : Type 0} {a b c : Ahead} {s t : Lent} → Moves None x a s y b t → Passes n b c → Moves None x a s y c t
-moves_pass {n} {x} {y} {a} {b} {c} {s} {t} h e =
+pub moves_pass : {n : ℕ} {a b c : Ahead} {s t : Seen} → Moves None a s b t → Passes n b c → Moves None a s c t
+moves_pass {n} {a} {b} {c} {s} {t} h e =
     let p = e.place in
     let q = e.limit in
     let w = e.within in
     moves_trans h (record { limit = e.limit; on = omega arith; within = λ m. omega arith; near = λ m. rw e.bytes (simp length-drop (omega arith)); reads = reads_pass b.bytes c.bytes n b.place c.place t.left e.bytes e.place e.here; written = refl; stays = refl; later = omega arith; steady = λ m. m; blame = refl })
 
 -- the fault stands where the call has come
-pub moves_wrong : {f : JsonFault} {x y : Type 0} {a b : Ahead} {s t : Lent} → f ≡ NotJson b.place → Moves None x a s y b t → Moves (Some f) x a s y b t
+pub moves_wrong : {f : JsonFault} {a b : Ahead} {s t : Seen} → f ≡ NotJson b.place → Moves None a s b t → Moves (Some f) a s b t
 moves_wrong e h = rw e (record { limit = h.limit; on = h.on; within = h.within; near = h.near; reads = h.reads; written = h.written; stays = h.stays; later = h.later; steady = h.steady; blame = (h.blame, refl) })
 
-pub moves_deep : {f : JsonFault} {x y : Type 0} {a b : Ahead} {s t : Lent} → f ≡ TooDeep b.place → Moves None x a s y b t → Moves (Some f) x a s y b t
+pub moves_deep : {f : JsonFault} {a b : Ahead} {s t : Seen} → f ≡ TooDeep b.place → Moves None a s b t → Moves (Some f) a s b t
 moves_deep e h = rw e (record { limit = h.limit; on = h.on; within = h.within; near = h.near; reads = h.reads; written = h.written; stays = h.stays; later = h.later; steady = h.steady; blame = (h.blame, refl) })
 
 -- memory ran out there
-pub moves_full : {f : JsonFault} {x y : Type 0} {a b : Ahead} {s t : Lent} → f ≡ NoMemory → Moves None x a s y b t → Moves (Some f) x a s y b t
+pub moves_full : {f : JsonFault} {a b : Ahead} {s t : Seen} → f ≡ NoMemory → Moves None a s b t → Moves (Some f) a s b t
 moves_full e h = rw e (record { limit = h.limit; on = h.on; within = h.within; near = h.near; reads = h.reads; written = h.written; stays = h.stays; later = h.later; steady = h.steady; blame = h.blame })
 
 -- ---- places
@@ -120,24 +121,24 @@ if_ok_all (Ok x) f = f x
 if_ok_all (Err fault) f = tt
 
 -- the answer of a text that grows
-pub moves_push : {T : Type 0} {x y : Type 0} {a b : Ahead} {s t : Lent} (r : Result T JsonFault) → IfErr r (λ f. f ≡ NoMemory) → Moves None x a s y b t → Moves (fault_of r) x a s y b t
+pub moves_push : {T : Type 0} {a b : Ahead} {s t : Seen} (r : Result T JsonFault) → IfErr r (λ f. f ≡ NoMemory) → Moves None a s b t → Moves (fault_of r) a s b t
 moves_push (Ok v) e h = h
 moves_push (Err f) e h = moves_full e h
 
 -- the answer of a run of bytes that stands at its place
-pub moves_plain : {x : Type 0} {a b : Ahead} {s : Lent} {T : Type 0} (r : Result T JsonFault) → OnOk r ((n : ℕ) × (0 < n) × Passes n a b) →
-    IfErr r (λ f. (b ≡ a) × ((f ≡ NoMemory) ⊎ (f ≡ NotJson a.place))) → Moves (fault_of r) x a s x b s
-moves_plain {x} {a} {b} {s} (Ok v) h e = moves_pass (moves_here x a s) h.2
-moves_plain {x} {a} {b} {s} (Err f) h e = rw e.0 (stays e.1)
+pub moves_plain : {a b : Ahead} {s : Seen} {T : Type 0} (r : Result T JsonFault) → OnOk r ((n : ℕ) × (0 < n) × Passes n a b) →
+    IfErr r (λ f. (b ≡ a) × ((f ≡ NoMemory) ⊎ (f ≡ NotJson a.place))) → Moves (fault_of r) a s b s
+moves_plain {a} {b} {s} (Ok v) h e = moves_pass (moves_here a s) h.2
+moves_plain {a} {b} {s} (Err f) h e = rw e.0 (stays e.1)
   where
-    stays : ((f ≡ NoMemory) ⊎ (f ≡ NotJson a.place)) → Moves (Some f) x a s x a s
-    stays (inl p) = moves_full p (moves_here x a s)
-    stays (inr p) = moves_wrong p (moves_here x a s)
+    stays : ((f ≡ NoMemory) ⊎ (f ≡ NotJson a.place)) → Moves (Some f) a s a s
+    stays (inl p) = moves_full p (moves_here a s)
+    stays (inr p) = moves_wrong p (moves_here a s)
 
 -- a bracket that wasn't opened
-pub moves_unopened : {x : Type 0} {a b : Ahead} {s : Lent} {f : JsonFault} → (b ≡ a) × ((f ≡ NoMemory) ⊎ (f ≡ TooDeep a.place)) → Moves (Some f) x a s x b s
-moves_unopened {x} {a} {b} {s} {f} e = rw e.0 (stays e.1)
+pub moves_unopened : {a b : Ahead} {s : Seen} {f : JsonFault} → (b ≡ a) × ((f ≡ NoMemory) ⊎ (f ≡ TooDeep a.place)) → Moves (Some f) a s b s
+moves_unopened {a} {b} {s} {f} e = rw e.0 (stays e.1)
   where
-    stays : ((f ≡ NoMemory) ⊎ (f ≡ TooDeep a.place)) → Moves (Some f) x a s x a s
-    stays (inl p) = moves_full p (moves_here x a s)
-    stays (inr p) = moves_deep p (moves_here x a s)
+    stays : ((f ≡ NoMemory) ⊎ (f ≡ TooDeep a.place)) → Moves (Some f) a s a s
+    stays (inl p) = moves_full p (moves_here a s)
+    stays (inr p) = moves_deep p (moves_here a s)

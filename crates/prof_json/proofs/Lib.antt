@@ -2,6 +2,7 @@ pub mod Windows
 pub mod Items
 pub mod Journeys
 pub mod Runs
+pub mod Owning
 pub mod Utf8
 pub mod Texts
 pub mod Enclosing

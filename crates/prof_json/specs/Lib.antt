@@ -1,6 +1,7 @@
 pub mod Bytes
 pub mod Ahead
 pub mod Moves
+pub mod Own
 pub mod Kept
 pub mod Numbers
 pub mod Nest

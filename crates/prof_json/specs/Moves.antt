@@ -1,20 +1,10 @@
 -- What a call that reads from a lent source does to it and to the window.
 use Rattle.std.specs.Prelude.{◌≡◌, ℕ, ◌+◌, ◌≤◌, List, ◌++◌, Option, Some, None, Result, Ok, Err, length}
 use Rattle.prof_io.specs.Causes.{Rose}
-use Rattle.prof_io.specs.Shelf.{Place}
+use Rattle.prof_io.specs.Outside.{Seen}
 use Rattle.prof_json.specs.Ahead.{Ahead, Knows}
 use Rattle.prof_json.specs.declared.answer.JsonFault.{JsonFault}
 use Rattle.prof_json.specs.declared.answer.JsonFault.TheVariants.{NotJson, TooDeep, TooLong, ReadFault, NoMemory}
-
--- what a source tells of itself
-pub record Lent : Type 0 where
-  pub left : Option (List ℕ)
-  pub written : Option (List ℕ)
-  pub place : Place
-  pub faults : ℕ
-
-abbrev pub lent : Option (List ℕ) → Option (List ℕ) → Place → ℕ → Lent
-lent left written place faults = record { left = left; written = written; place = place; faults = faults }
 
 -- These bytes were read. What was ahead and left before is they, and what is ahead and left now.
 pub record IsRead (before after : List ℕ) (place place' : ℕ) : Type 0 where
@@ -40,7 +30,7 @@ Blames (Some ReadFault) sure faults faults' place limit = Rose faults faults' ×
 Blames (Some NoMemory) sure faults faults' place limit = faults' ≡ faults
 
 -- from the first state the call moved on to the second, and met this fault
-pub record Moves (fault : Option JsonFault) (sure : Type 0) (a : Ahead) (s : Lent) (sure' : Type 0) (b : Ahead) (t : Lent) : Type 0 where
+pub record Moves (fault : Option JsonFault) (a : Ahead) (s : Seen) (b : Ahead) (t : Seen) : Type 0 where
   pub limit : b.limit ≡ a.limit
   pub on : a.place ≤ b.place
   pub within : a.place ≤ a.limit → b.place ≤ b.limit
@@ -49,5 +39,5 @@ pub record Moves (fault : Option JsonFault) (sure : Type 0) (a : Ahead) (s : Len
   pub written : t.written ≡ s.written
   pub stays : t.place ≡ s.place
   pub later : s.faults ≤ t.faults
-  pub steady : sure → sure'
-  pub blame : Blames fault sure s.faults t.faults b.place b.limit
+  pub steady : s.sure → t.sure
+  pub blame : Blames fault s.sure s.faults t.faults b.place b.limit

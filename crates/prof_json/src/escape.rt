@@ -6,11 +6,12 @@ ghost use Rattle.std.specs.Option.{unwrap_or};
 ghost use Rattle.prof_grammar.specs.Machine.{Part, Role, chars, hex, nothing, escaped, settled, add_first, add_unit, with_unit, with_hex};
 ghost use Rattle.prof_grammar.specs.Reading.{max_depth};
 ghost use Rattle.prof_grammar.specs.Told.{depth};
+ghost use Rattle.prof_io.specs.Outside.{seen};
 ghost use Rattle.prof_json.specs.Ahead.{IsNext};
 ghost use Rattle.prof_json.specs.Goes.{Goes};
 ghost use Rattle.prof_json.specs.Writes.{Writes, IsUnit, silent, shown_of, value_of};
 ghost use Rattle.prof_json.specs.Kept.{Kept, Gains};
-ghost use Rattle.prof_json.specs.Moves.{Moves, lent, fault_of};
+ghost use Rattle.prof_json.specs.Moves.{Moves, fault_of};
 
 use crate::JsonFault;
 use crate::buffer::Buffer;
@@ -121,9 +122,7 @@ pub fn push_unit(text: &mut Buffer, high: Option<u16>, unit: u16) -> Result<Opti
 
 /// Reads a hexadecimal digit.
 fn read_hex<S: Source>(input: &mut Input, src: &mut S) -> Result<u16, JsonFault>
-    ensures moves { Moves (fault_of result)
-        (S.sure src.old) input.old (lent (S.left src.old) (S.written src.old) (S.place src.old) (S.faults src.old))
-        (S.sure src.new) input.new (lent (S.left src.new) (S.written src.new) (S.place src.new) (S.faults src.new)) }
+    ensures moves { Moves (fault_of result) input.old (seen S.Counted src.old) input.new (seen S.Counted src.new) }
     ensures small { IfOk result (λ v. v < 16) }
     ensures exact { (k : Role) (s : List ℕ) (p : Option ℕ) (n v : ℕ) (ps : List Part) → depth ps ≤ max_depth →
         Goes (fault_of result) input.old (S.left src.old) (chars k s p (hex n v) ∷ ps) [] input.new (S.left src.new) (with_hex k s p n (v * 16 + value_of result) ∷ ps) }
@@ -140,9 +139,7 @@ fn read_hex<S: Source>(input: &mut Input, src: &mut S) -> Result<u16, JsonFault>
 
 /// Reads the four digits of a `\u`.
 fn read_unit<S: Source>(input: &mut Input, src: &mut S) -> Result<u16, JsonFault>
-    ensures moves { Moves (fault_of result)
-        (S.sure src.old) input.old (lent (S.left src.old) (S.written src.old) (S.place src.old) (S.faults src.old))
-        (S.sure src.new) input.new (lent (S.left src.new) (S.written src.new) (S.place src.new) (S.faults src.new)) }
+    ensures moves { Moves (fault_of result) input.old (seen S.Counted src.old) input.new (seen S.Counted src.new) }
     ensures exact { (k : Role) (s : List ℕ) (p : Option ℕ) (ps : List Part) → depth ps ≤ max_depth →
         Goes (fault_of result) input.old (S.left src.old) (chars k s p (hex 3 0) ∷ ps) [] input.new (S.left src.new) (with_unit k s p (value_of result) ∷ ps) }
 {
@@ -163,9 +160,7 @@ pub fn read_escape<S: Source>(
 ) -> Result<Option<u16>, JsonFault>
     requires next { IsNext 92 input.old }
     requires high { IfSome high (λ u. is_high_surrogate u ≡ true) }
-    ensures moves { Moves (fault_of result)
-        (S.sure src.old) input.old (lent (S.left src.old) (S.written src.old) (S.place src.old) (S.faults src.old))
-        (S.sure src.new) input.new (lent (S.left src.new) (S.written src.new) (S.place src.new) (S.faults src.new)) }
+    ensures moves { Moves (fault_of result) input.old (seen S.Counted src.old) input.new (seen S.Counted src.new) }
     ensures waits { IfOk result (λ o. IfSome o (λ u. is_high_surrogate u ≡ true)) }
     ensures further { OnOk result (input.old.place < input.new.place) }
     ensures exact { (begun : Kept) (k : Role) (s : List ℕ) (ps : List Part) → Gains begun s text.old → depth ps ≤ max_depth →

@@ -2,10 +2,11 @@
 ghost use Rattle.std.specs.Prelude.{◌≡◌, ◌+◌, ◌<◌, ◌≤◌, ◌-◌, List, [], length, take, IfOk, IfSome, OnOk, IsOk, Ok, None, vec_len};
 ghost use Rattle.std.specs.Io.KnownBytes.{IsAtEnd};
 ghost use Rattle.prof_io.specs.Causes.{HasCause};
+ghost use Rattle.prof_io.specs.Outside.{seen};
 ghost use Rattle.prof_json.specs.Ahead.{IsNext, IsSame, IsShown, Passes};
 ghost use Rattle.prof_grammar.specs.Machine.{Part, finish};
 ghost use Rattle.prof_json.specs.Goes.{Goes};
-ghost use Rattle.prof_json.specs.Moves.{Moves, lent, fault_of};
+ghost use Rattle.prof_json.specs.Moves.{Moves, fault_of};
 
 use crate::JsonFault;
 use prof_io::{Failed, NoMemory, Source};
@@ -82,9 +83,7 @@ impl Input {
 
     /// Shows the next byte, or `None` where the source has none left.
     pub fn peek<S: Source>(&mut self, src: &mut S) -> Result<Option<u8>, JsonFault>
-        ensures moves { Moves (fault_of result)
-            (S.sure src.old) self.old (lent (S.left src.old) (S.written src.old) (S.place src.old) (S.faults src.old))
-            (S.sure src.new) self.new (lent (S.left src.new) (S.written src.new) (S.place src.new) (S.faults src.new)) }
+        ensures moves { Moves (fault_of result) self.old (seen S.Counted src.old) self.new (seen S.Counted src.new) }
         ensures same { IsSame self.old (S.left src.old) self.new (S.left src.new) }
         ensures shown { IfOk result (λ o. IsShown o self.new (S.left src.new)) }
         ensures exact { (ps : List Part) → Goes (fault_of result) self.old (S.left src.old) ps [] self.new (S.left src.new) ps }
@@ -103,9 +102,7 @@ impl Input {
 
     /// Shows the next byte, where the text can't end.
     pub fn need<S: Source>(&mut self, src: &mut S) -> Result<u8, JsonFault>
-        ensures moves { Moves (fault_of result)
-            (S.sure src.old) self.old (lent (S.left src.old) (S.written src.old) (S.place src.old) (S.faults src.old))
-            (S.sure src.new) self.new (lent (S.left src.new) (S.written src.new) (S.place src.new) (S.faults src.new)) }
+        ensures moves { Moves (fault_of result) self.old (seen S.Counted src.old) self.new (seen S.Counted src.new) }
         ensures same { IsSame self.old (S.left src.old) self.new (S.left src.new) }
         ensures byte { IfOk result (λ b. IsNext b self.new) }
         ensures exact { (ps : List Part) → finish ps ≡ None → Goes (fault_of result) self.old (S.left src.old) ps [] self.new (S.left src.new) ps }

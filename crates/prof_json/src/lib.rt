@@ -20,6 +20,3 @@ mod value;
 pub use answer::{Event, JsonFault};
 pub use nesting::{Bracket, Phase};
 pub use reading::Reader;
-
-#[cfg(test)]
-mod tests;

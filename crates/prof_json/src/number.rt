@@ -6,6 +6,7 @@ ghost use Rattle.prof_grammar.specs.Machine.{Part, Stage, Next, class, step, dig
 ghost use Rattle.prof_grammar.specs.Reading.{max_depth};
 ghost use Rattle.prof_grammar.specs.Told.{depth};
 ghost use Rattle.prof_time.specs.Numeral.{AreDigits, IsDigits, IsInt};
+ghost use Rattle.prof_io.specs.Outside.{seen};
 ghost use Rattle.prof_json.specs.Ahead.{IsNext, IsShown, Passes};
 ghost use Rattle.prof_json.specs.Bytes as bytes_spec;
 ghost use Rattle.prof_json.specs.Goes.{Goes};
@@ -13,7 +14,8 @@ ghost use Rattle.prof_json.specs.Writes.{Writes, silent, shown_of, value_of};
 ghost use Rattle.prof_json.specs.Stages.{Counts, IsRunning, Wants, MayEnd, Signs, TakesFraction, TakesExponent, whole_stage, behind_fraction, behind_exponent, goes_further, no_byte};
 ghost use Rattle.prof_json.specs.Kept.{Kept, Adds, Gains};
 ghost use Rattle.prof_json.specs.Numbers.{IsFractionText, IsSignText, IsExponentText, IsUnsigned, IsNumeral};
-ghost use Rattle.prof_json.specs.Moves.{Moves, lent, fault_of};
+ghost use Rattle.prof_json.specs.Own.{Owns, OwnsAny};
+ghost use Rattle.prof_json.specs.Moves.{Moves, fault_of};
 
 use crate::JsonFault;
 use crate::buffer::Buffer;
@@ -39,6 +41,7 @@ fn read_run(input: &mut Input, text: &mut Buffer, first: u8) -> Result<(), JsonF
     requires next { IsNext first input.old }
     requires digit { bytes_spec.is_digit first ≡ true }
     ensures run { OnOk result ((n : ℕ) × (0 < n) × Passes n input.old input.new) }
+    ensures own { OnOk result ((left : Option (List ℕ)) → OwnsAny input.old.bytes left input.new.bytes left) }
     ensures text { OnOk result ((ds : List ℕ) × AreDigits ds × Gains text.old (first ∷ ds) text.new) }
     ensures err { IfErr result (λ fault. (fault ≡ JsonFault.NoMemory) × (input.new ≡ input.old)) }
     ensures exact { (left : Option (List ℕ)) (begun : Kept) (n : Stage) (s : List ℕ) (qs ps : List Part) → step qs (class first) first ≡ Some ([], digits n (s ++ first ∷ []) ∷ ps) →
@@ -58,11 +61,10 @@ fn read_digits<S: Source>(
     src: &mut S,
     text: &mut Buffer,
 ) -> Result<Option<u8>, JsonFault>
-    ensures moves { Moves (fault_of result)
-        (S.sure src.old) input.old (lent (S.left src.old) (S.written src.old) (S.place src.old) (S.faults src.old))
-        (S.sure src.new) input.new (lent (S.left src.new) (S.written src.new) (S.place src.new) (S.faults src.new)) }
+    ensures moves { Moves (fault_of result) input.old (seen S.Counted src.old) input.new (seen S.Counted src.new) }
     ensures shown { IfOk result (λ o. IsShown o input.new (S.left src.new)) }
     ensures text { OnOk result (Adds AreDigits text.old text.new) }
+    ensures own { OnOk result (OwnsAny input.old.bytes (S.left src.old) input.new.bytes (S.left src.new)) }
     ensures behind { IfOk result (λ o. IfSome o (λ b. bytes_spec.is_digit b ≡ false)) }
     ensures exact { (begun : Kept) (n : Stage) (s : List ℕ) (ps : List Part) → IsRunning n → Gains begun s text.old → depth ps ≤ max_depth →
         Writes (fault_of result) begun input.old (S.left src.old) (digits n s ∷ ps) silent input.new (S.left src.new) text.new (λ t. digits n t ∷ ps) }
@@ -93,12 +95,11 @@ fn read_some_digits<S: Source>(
     first: u8,
 ) -> Result<Option<u8>, JsonFault>
     requires { IsNext first input.old }
-    ensures moves { Moves (fault_of result)
-        (S.sure src.old) input.old (lent (S.left src.old) (S.written src.old) (S.place src.old) (S.faults src.old))
-        (S.sure src.new) input.new (lent (S.left src.new) (S.written src.new) (S.place src.new) (S.faults src.new)) }
+    ensures moves { Moves (fault_of result) input.old (seen S.Counted src.old) input.new (seen S.Counted src.new) }
     ensures shown { IfOk result (λ o. IsShown o input.new (S.left src.new)) }
     ensures text { OnOk result (Adds IsDigits text.old text.new) }
     ensures further { OnOk result (input.old.place < input.new.place) }
+    ensures own { OnOk result (Owns input.old.bytes (S.left src.old) input.new.bytes (S.left src.new)) }
     ensures behind { IfOk result (λ o. IfSome o (λ b. bytes_spec.is_digit b ≡ false)) }
     ensures exact { (begun : Kept) (n n2 : Stage) (s : List ℕ) (ps : List Part) → Wants n first n2 → IsRunning n2 → Gains begun s text.old → depth ps ≤ max_depth →
         Writes (fault_of result) begun input.old (S.left src.old) (digits n s ∷ ps) silent input.new (S.left src.new) text.new (λ t. digits n2 t ∷ ps) }
@@ -119,12 +120,11 @@ fn read_whole<S: Source>(
 ) -> Result<Option<u8>, JsonFault>
     requires next { IsNext first input.old }
     requires digit { bytes_spec.is_digit first ≡ true }
-    ensures moves { Moves (fault_of result)
-        (S.sure src.old) input.old (lent (S.left src.old) (S.written src.old) (S.place src.old) (S.faults src.old))
-        (S.sure src.new) input.new (lent (S.left src.new) (S.written src.new) (S.place src.new) (S.faults src.new)) }
+    ensures moves { Moves (fault_of result) input.old (seen S.Counted src.old) input.new (seen S.Counted src.new) }
     ensures shown { IfOk result (λ o. IsShown o input.new (S.left src.new)) }
     ensures text { OnOk result (Adds IsInt text.old text.new) }
     ensures further { OnOk result (input.old.place < input.new.place) }
+    ensures own { OnOk result (Owns input.old.bytes (S.left src.old) input.new.bytes (S.left src.new)) }
     ensures over { IfOk result (λ o. MayEnd (whole_stage first) goes_further o) }
     ensures exact { (begun : Kept) (s : List ℕ) (qs ps : List Part) → step qs (class first) first ≡ Some ([], digits (whole_stage first) (s ++ first ∷ []) ∷ ps) →
         Gains begun s text.old → depth ps ≤ max_depth →
@@ -146,11 +146,10 @@ fn read_fraction<S: Source>(
     shown: Option<u8>,
 ) -> Result<Option<u8>, JsonFault>
     requires { IsShown shown input.old (S.left src.old) }
-    ensures moves { Moves (fault_of result)
-        (S.sure src.old) input.old (lent (S.left src.old) (S.written src.old) (S.place src.old) (S.faults src.old))
-        (S.sure src.new) input.new (lent (S.left src.new) (S.written src.new) (S.place src.new) (S.faults src.new)) }
+    ensures moves { Moves (fault_of result) input.old (seen S.Counted src.old) input.new (seen S.Counted src.new) }
     ensures shown { IfOk result (λ o. IsShown o input.new (S.left src.new)) }
     ensures text { OnOk result (Adds IsFractionText text.old text.new) }
+    ensures own { OnOk result (OwnsAny input.old.bytes (S.left src.old) input.new.bytes (S.left src.new)) }
     ensures over { IfOk result (λ o. (n : Stage) → MayEnd n goes_further shown → MayEnd (behind_fraction shown n) bytes_spec.is_e o) }
     ensures exact { (begun : Kept) (n : Stage) (s : List ℕ) (ps : List Part) → TakesFraction n → Gains begun s text.old → depth ps ≤ max_depth →
         Writes (fault_of result) begun input.old (S.left src.old) (digits n s ∷ ps) silent input.new (S.left src.new) text.new (λ t. digits (behind_fraction shown n) t ∷ ps) }
@@ -171,9 +170,7 @@ fn read_exponent_sign<S: Source>(
     src: &mut S,
     text: &mut Buffer,
 ) -> Result<u8, JsonFault>
-    ensures moves { Moves (fault_of result)
-        (S.sure src.old) input.old (lent (S.left src.old) (S.written src.old) (S.place src.old) (S.faults src.old))
-        (S.sure src.new) input.new (lent (S.left src.new) (S.written src.new) (S.place src.new) (S.faults src.new)) }
+    ensures moves { Moves (fault_of result) input.old (seen S.Counted src.old) input.new (seen S.Counted src.new) }
     ensures byte { IfOk result (λ b. IsNext b input.new) }
     ensures text { OnOk result (Adds IsSignText text.old text.new) }
     ensures exact { (begun : Kept) (s : List ℕ) (ps : List Part) → Gains begun s text.old → depth ps ≤ max_depth →
@@ -195,11 +192,10 @@ fn read_exponent<S: Source>(
     shown: Option<u8>,
 ) -> Result<Option<u8>, JsonFault>
     requires { IsShown shown input.old (S.left src.old) }
-    ensures moves { Moves (fault_of result)
-        (S.sure src.old) input.old (lent (S.left src.old) (S.written src.old) (S.place src.old) (S.faults src.old))
-        (S.sure src.new) input.new (lent (S.left src.new) (S.written src.new) (S.place src.new) (S.faults src.new)) }
+    ensures moves { Moves (fault_of result) input.old (seen S.Counted src.old) input.new (seen S.Counted src.new) }
     ensures shown { IfOk result (λ o. IsShown o input.new (S.left src.new)) }
     ensures text { OnOk result (Adds IsExponentText text.old text.new) }
+    ensures own { OnOk result (OwnsAny input.old.bytes (S.left src.old) input.new.bytes (S.left src.new)) }
     ensures over { IfOk result (λ o. (n : Stage) → MayEnd n bytes_spec.is_e shown → MayEnd (behind_exponent shown n) no_byte o) }
     ensures exact { (begun : Kept) (n : Stage) (s : List ℕ) (ps : List Part) → TakesExponent n → Gains begun s text.old → depth ps ≤ max_depth →
         Writes (fault_of result) begun input.old (S.left src.old) (digits n s ∷ ps) silent input.new (S.left src.new) text.new (λ t. digits (behind_exponent shown n) t ∷ ps) }
@@ -223,12 +219,11 @@ fn read_unsigned<S: Source>(
 ) -> Result<Option<u8>, JsonFault>
     requires next { IsNext first input.old }
     requires digit { bytes_spec.is_digit first ≡ true }
-    ensures moves { Moves (fault_of result)
-        (S.sure src.old) input.old (lent (S.left src.old) (S.written src.old) (S.place src.old) (S.faults src.old))
-        (S.sure src.new) input.new (lent (S.left src.new) (S.written src.new) (S.place src.new) (S.faults src.new)) }
+    ensures moves { Moves (fault_of result) input.old (seen S.Counted src.old) input.new (seen S.Counted src.new) }
     ensures shown { IfOk result (λ o. IsShown o input.new (S.left src.new)) }
     ensures text { OnOk result (Adds IsUnsigned text.old text.new) }
     ensures further { OnOk result (input.old.place < input.new.place) }
+    ensures own { OnOk result (Owns input.old.bytes (S.left src.old) input.new.bytes (S.left src.new)) }
     ensures exact { (begun : Kept) (s : List ℕ) (qs ps : List Part) → step qs (class first) first ≡ Some ([], digits (whole_stage first) (s ++ first ∷ []) ∷ ps) →
         Gains begun s text.old → depth ps ≤ max_depth →
         Counts (fault_of result) begun input.old (S.left src.old) qs input.new (S.left src.new) text.new (shown_of result) ps }
@@ -247,12 +242,11 @@ pub fn read_number<S: Source>(
 ) -> Result<Option<u8>, JsonFault>
     requires next { IsNext first input.old }
     requires begins { (first ≡ 45) ⊎ (bytes_spec.is_digit first ≡ true) }
-    ensures moves { Moves (fault_of result)
-        (S.sure src.old) input.old (lent (S.left src.old) (S.written src.old) (S.place src.old) (S.faults src.old))
-        (S.sure src.new) input.new (lent (S.left src.new) (S.written src.new) (S.place src.new) (S.faults src.new)) }
+    ensures moves { Moves (fault_of result) input.old (seen S.Counted src.old) input.new (seen S.Counted src.new) }
     ensures shown { IfOk result (λ o. IsShown o input.new (S.left src.new)) }
     ensures text { OnOk result (Adds IsNumeral text.old text.new) }
     ensures further { OnOk result (input.old.place < input.new.place) }
+    ensures own { OnOk result (Owns input.old.bytes (S.left src.old) input.new.bytes (S.left src.new)) }
     ensures exact { (begun : Kept) (qs ps : List Part) → step qs (class first) first ≡ begin_value (class first) first ps → Gains begun [] text.old → depth ps ≤ max_depth →
         Counts (fault_of result) begun input.old (S.left src.old) qs input.new (S.left src.new) text.new (shown_of result) ps }
 {

@@ -3,8 +3,10 @@ ghost use Rattle.std.specs.Prelude.{◌≡◌, ◌≢◌, ℕ, ◌<◌, ◌≤�
 ghost use Rattle.std.specs.Io.KnownBytes.{IsAtEnd};
 ghost use Rattle.prof_io.specs.Causes.{Rose};
 ghost use Rattle.prof_grammar.specs.Event as grammar;
+ghost use Rattle.prof_io.specs.Outside.{seen};
 ghost use Rattle.prof_json.specs.Goes.{Goes, IsFaultOf};
-ghost use Rattle.prof_json.specs.Moves.{Moves, Reads, lent, fault_of};
+ghost use Rattle.prof_json.specs.Own.{Owns};
+ghost use Rattle.prof_json.specs.Moves.{Moves, Reads, fault_of};
 ghost use Rattle.prof_json.specs.Nest.{Occurs};
 ghost use Rattle.prof_json.specs.Parts.{behind, parts_in};
 ghost use Rattle.prof_json.specs.Skip.{IsBegun, IsAround, IsRest, outside_of};
@@ -44,11 +46,10 @@ fn skip_events<S: Source>(
     requires within { opened ≤ length brackets.old.items }
     requires inside { (opened < length brackets.old.items) ⊎ (begun ≡ Phase.AfterName) }
     requires around { IsAround begun opened brackets.old.items }
-    ensures moves { Moves (fault_of result)
-        (S.sure src.old) input.old (lent (S.left src.old) (S.written src.old) (S.place src.old) (S.faults src.old))
-        (S.sure src.new) input.new (lent (S.left src.new) (S.written src.new) (S.place src.new) (S.faults src.new)) }
+    ensures moves { Moves (fault_of result) input.old (seen S.Counted src.old) input.new (seen S.Counted src.new) }
     ensures closed { OnOk result (brackets.new.items ≡ take opened brackets.old.items) }
     ensures further { OnOk result (input.old.place < input.new.place) }
+    ensures own { OnOk result (Owns input.old.bytes (S.left src.old) input.new.bytes (S.left src.new)) }
     ensures told { OnOk result ((es : List grammar.Event) × IsRest begun es × Goes None input.old (S.left src.old) (parts_in begun (behind brackets.old.items)) es input.new (S.left src.new) (behind brackets.new.items)) }
     ensures fault { IfErr result (λ fault. IsFaultOf fault input.old (S.left src.old) (parts_in begun (behind brackets.old.items))) }
 {
@@ -155,9 +156,10 @@ impl Reader {
         ensures kept { IfErr result (λ fault. self.new.fault ≡ Some fault) }
         ensures again { IfSome self.old.fault (λ fault. (result ≡ Err fault) × (self.new ≡ self.old) × (src.new ≡ src.old)) }
 
-        // The bytes between were read, and no more than a window was taken.
+        // The bytes between were read, the event's own last byte last, and no more than a window was taken.
         ensures read { Reads self.old.ahead self.old.place (S.left src.old) self.new.ahead self.new.place (S.left src.new) }
         ensures near { length self.new.ahead ≤ 65536 }
+        ensures own { IfOk result (λ e. e ≢ Event.End → Owns self.old.ahead (S.left src.old) self.new.ahead (S.left src.new)) }
         ensures limit { self.new.limit ≡ self.old.limit }
         ensures within { self.new.place ≤ self.new.limit }
         ensures further { IfOk result (λ e. e ≢ Event.End → self.old.place < self.new.place) }
@@ -212,9 +214,10 @@ impl Reader {
         ensures kept { IfErr result (λ fault. self.new.fault ≡ Some fault) }
         ensures again { IfSome self.old.fault (λ fault. (result ≡ Err fault) × (self.new ≡ self.old) × (src.new ≡ src.old)) }
 
-        // The bytes between were read, and no more than a window was taken.
+        // The bytes between were read, the value's own last byte last, and no more than a window was taken.
         ensures read { Reads self.old.ahead self.old.place (S.left src.old) self.new.ahead self.new.place (S.left src.new) }
         ensures near { length self.new.ahead ≤ 65536 }
+        ensures own { OnOk result (Owns self.old.ahead (S.left src.old) self.new.ahead (S.left src.new)) }
         ensures limit { self.new.limit ≡ self.old.limit }
         ensures within { self.new.place ≤ self.new.limit }
         ensures further { OnOk result (self.old.place < self.new.place) }

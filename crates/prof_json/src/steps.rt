@@ -1,9 +1,10 @@
 // The next event, by what may come.
-ghost use Rattle.std.specs.Prelude.{◌≡◌, ℕ, ◌<◌, ◌≤◌, List, [], ◌∷◌, ◌++◌, true, false, length, IfOk, IfErr, OnOk, Ok};
+ghost use Rattle.std.specs.Prelude.{◌≡◌, ◌≢◌, ℕ, ◌<◌, ◌≤◌, List, [], ◌∷◌, ◌++◌, true, false, length, IfOk, IfErr, OnOk, Ok};
 ghost use Rattle.std.specs.Io.KnownBytes.{IsAtEnd};
 ghost use Rattle.prof_grammar.specs.Grammar.{value};
 ghost use Rattle.prof_grammar.specs.Machine.{Part, blank, symbol};
 ghost use Rattle.prof_grammar.specs.Reading.{finished};
+ghost use Rattle.prof_io.specs.Outside.{seen};
 ghost use Rattle.prof_json.specs.Ahead.{IsNext, Passes};
 ghost use Rattle.prof_json.specs.Goes.{Goes, Stops};
 ghost use Rattle.prof_json.specs.Writes.{Writes};
@@ -12,7 +13,8 @@ ghost use Rattle.prof_json.specs.Kept.{Kept, Gains};
 ghost use Rattle.prof_json.specs.Nest.{Occurs, IsWithin};
 ghost use Rattle.prof_json.specs.Parts.{behind, parts_in};
 ghost use Rattle.prof_json.specs.Step.{BeginsValue, IsStep, ReadsItem};
-ghost use Rattle.prof_json.specs.Moves.{Moves, lent, fault_of};
+ghost use Rattle.prof_json.specs.Own.{Owns};
+ghost use Rattle.prof_json.specs.Moves.{Moves, fault_of};
 
 use crate::buffer::Buffer;
 use crate::input::Input;
@@ -31,10 +33,9 @@ fn read_value<S: Source>(
     text: &mut Buffer,
 ) -> Result<Event, JsonFault>
     requires few { length brackets.old.items ≤ 256 }
-    ensures moves { Moves (fault_of result)
-        (S.sure src.old) input.old (lent (S.left src.old) (S.written src.old) (S.place src.old) (S.faults src.old))
-        (S.sure src.new) input.new (lent (S.left src.new) (S.written src.new) (S.place src.new) (S.faults src.new)) }
+    ensures moves { Moves (fault_of result) input.old (seen S.Counted src.old) input.new (seen S.Counted src.new) }
     ensures ok { IfOk result (λ e. BeginsValue brackets.old.items e brackets.new.items input.old input.new text.old text.new) }
+    ensures own { OnOk result (Owns input.old.bytes (S.left src.old) input.new.bytes (S.left src.new)) }
     ensures exact { (begun : Kept) → Gains begun [] text.old →
         Writes (fault_of result) begun input.old (S.left src.old) (blank ∷ symbol value ∷ behind brackets.old.items) (told_by result) input.new (S.left src.new) text.new (λ t. parts_behind result brackets.new.items) }
 {
@@ -50,10 +51,9 @@ fn read_name<S: Source>(
     first: u8,
 ) -> Result<Event, JsonFault>
     requires { IsNext first input.old }
-    ensures moves { Moves (fault_of result)
-        (S.sure src.old) input.old (lent (S.left src.old) (S.written src.old) (S.place src.old) (S.faults src.old))
-        (S.sure src.new) input.new (lent (S.left src.new) (S.written src.new) (S.place src.new) (S.faults src.new)) }
+    ensures moves { Moves (fault_of result) input.old (seen S.Counted src.old) input.new (seen S.Counted src.new) }
     ensures ok { IfOk result (λ e. (e ≡ Event.Name) × (input.old.place < input.new.place)) }
+    ensures own { OnOk result (Owns input.old.bytes (S.left src.old) input.new.bytes (S.left src.new)) }
     ensures exact { (begun : Kept) (qs : List Part) (xs : List Bracket) → TakesName first qs xs → Gains begun [] text.old → length xs ≤ 256 →
         Writes (fault_of result) begun input.old (S.left src.old) qs (told_by result) input.new (S.left src.new) text.new (λ t. parts_behind result xs) }
 {
@@ -84,10 +84,9 @@ fn read_start<S: Source>(
 ) -> Result<Event, JsonFault>
     requires occurs { Occurs Phase.Start brackets.old.items }
     requires few { length brackets.old.items ≤ 256 }
-    ensures moves { Moves (fault_of result)
-        (S.sure src.old) input.old (lent (S.left src.old) (S.written src.old) (S.place src.old) (S.faults src.old))
-        (S.sure src.new) input.new (lent (S.left src.new) (S.written src.new) (S.place src.new) (S.faults src.new)) }
+    ensures moves { Moves (fault_of result) input.old (seen S.Counted src.old) input.new (seen S.Counted src.new) }
     ensures ok { IfOk result (λ e. IsStep (record { open_ = brackets.old.items; phase = Phase.Start }) e brackets.new.items input.old input.new text.old text.new) }
+    ensures own { OnOk result (Owns input.old.bytes (S.left src.old) input.new.bytes (S.left src.new)) }
     ensures exact { (begun : Kept) → Gains begun [] text.old →
         Writes (fault_of result) begun input.old (S.left src.old) (parts_in Phase.Start (behind brackets.old.items)) (told_by result) input.new (S.left src.new) text.new (λ t. parts_behind result brackets.new.items) }
 {
@@ -104,10 +103,9 @@ fn read_first_item<S: Source>(
 ) -> Result<Event, JsonFault>
     requires occurs { Occurs Phase.FirstItem brackets.old.items }
     requires few { length brackets.old.items ≤ 256 }
-    ensures moves { Moves (fault_of result)
-        (S.sure src.old) input.old (lent (S.left src.old) (S.written src.old) (S.place src.old) (S.faults src.old))
-        (S.sure src.new) input.new (lent (S.left src.new) (S.written src.new) (S.place src.new) (S.faults src.new)) }
+    ensures moves { Moves (fault_of result) input.old (seen S.Counted src.old) input.new (seen S.Counted src.new) }
     ensures ok { IfOk result (λ e. IsStep (record { open_ = brackets.old.items; phase = Phase.FirstItem }) e brackets.new.items input.old input.new text.old text.new) }
+    ensures own { OnOk result (Owns input.old.bytes (S.left src.old) input.new.bytes (S.left src.new)) }
     ensures exact { (begun : Kept) → Gains begun [] text.old →
         Writes (fault_of result) begun input.old (S.left src.old) (parts_in Phase.FirstItem (behind brackets.old.items)) (told_by result) input.new (S.left src.new) text.new (λ t. parts_behind result brackets.new.items) }
 {
@@ -128,10 +126,9 @@ fn read_first_member<S: Source>(
 ) -> Result<Event, JsonFault>
     requires occurs { Occurs Phase.FirstMember brackets.old.items }
     requires few { length brackets.old.items ≤ 256 }
-    ensures moves { Moves (fault_of result)
-        (S.sure src.old) input.old (lent (S.left src.old) (S.written src.old) (S.place src.old) (S.faults src.old))
-        (S.sure src.new) input.new (lent (S.left src.new) (S.written src.new) (S.place src.new) (S.faults src.new)) }
+    ensures moves { Moves (fault_of result) input.old (seen S.Counted src.old) input.new (seen S.Counted src.new) }
     ensures ok { IfOk result (λ e. IsStep (record { open_ = brackets.old.items; phase = Phase.FirstMember }) e brackets.new.items input.old input.new text.old text.new) }
+    ensures own { OnOk result (Owns input.old.bytes (S.left src.old) input.new.bytes (S.left src.new)) }
     ensures exact { (begun : Kept) → Gains begun [] text.old →
         Writes (fault_of result) begun input.old (S.left src.old) (parts_in Phase.FirstMember (behind brackets.old.items)) (told_by result) input.new (S.left src.new) text.new (λ t. parts_behind result brackets.new.items) }
 {
@@ -152,10 +149,9 @@ fn read_member_value<S: Source>(
 ) -> Result<Event, JsonFault>
     requires occurs { Occurs Phase.AfterName brackets.old.items }
     requires few { length brackets.old.items ≤ 256 }
-    ensures moves { Moves (fault_of result)
-        (S.sure src.old) input.old (lent (S.left src.old) (S.written src.old) (S.place src.old) (S.faults src.old))
-        (S.sure src.new) input.new (lent (S.left src.new) (S.written src.new) (S.place src.new) (S.faults src.new)) }
+    ensures moves { Moves (fault_of result) input.old (seen S.Counted src.old) input.new (seen S.Counted src.new) }
     ensures ok { IfOk result (λ e. IsStep (record { open_ = brackets.old.items; phase = Phase.AfterName }) e brackets.new.items input.old input.new text.old text.new) }
+    ensures own { OnOk result (Owns input.old.bytes (S.left src.old) input.new.bytes (S.left src.new)) }
     ensures exact { (begun : Kept) → Gains begun [] text.old →
         Writes (fault_of result) begun input.old (S.left src.old) (parts_in Phase.AfterName (behind brackets.old.items)) (told_by result) input.new (S.left src.new) text.new (λ t. parts_behind result brackets.new.items) }
 {
@@ -193,10 +189,9 @@ fn read_any_item<S: Source>(
 ) -> Result<Event, JsonFault>
     requires within { IsWithin Bracket.Array brackets.old.items }
     requires few { length brackets.old.items ≤ 256 }
-    ensures moves { Moves (fault_of result)
-        (S.sure src.old) input.old (lent (S.left src.old) (S.written src.old) (S.place src.old) (S.faults src.old))
-        (S.sure src.new) input.new (lent (S.left src.new) (S.written src.new) (S.place src.new) (S.faults src.new)) }
+    ensures moves { Moves (fault_of result) input.old (seen S.Counted src.old) input.new (seen S.Counted src.new) }
     ensures ok { IfOk result (λ e. IsStep (record { open_ = brackets.old.items; phase = Phase.AfterValue }) e brackets.new.items input.old input.new text.old text.new) }
+    ensures own { OnOk result (Owns input.old.bytes (S.left src.old) input.new.bytes (S.left src.new)) }
     ensures exact { (begun : Kept) → Gains begun [] text.old →
         Writes (fault_of result) begun input.old (S.left src.old) (parts_in Phase.AfterValue (behind brackets.old.items)) (told_by result) input.new (S.left src.new) text.new (λ t. parts_behind result brackets.new.items) }
 {
@@ -221,10 +216,9 @@ fn read_next_item<S: Source>(
 ) -> Result<Event, JsonFault>
     requires within { IsWithin Bracket.Array brackets.old.items }
     requires few { length brackets.old.items ≤ 256 }
-    ensures moves { Moves (fault_of result)
-        (S.sure src.old) input.old (lent (S.left src.old) (S.written src.old) (S.place src.old) (S.faults src.old))
-        (S.sure src.new) input.new (lent (S.left src.new) (S.written src.new) (S.place src.new) (S.faults src.new)) }
+    ensures moves { Moves (fault_of result) input.old (seen S.Counted src.old) input.new (seen S.Counted src.new) }
     ensures ok { IfOk result (λ e. IsStep (record { open_ = brackets.old.items; phase = Phase.AfterValue }) e brackets.new.items input.old input.new text.old text.new) }
+    ensures own { OnOk result (Owns input.old.bytes (S.left src.old) input.new.bytes (S.left src.new)) }
     ensures exact { (begun : Kept) → Gains begun [] text.old →
         Writes (fault_of result) begun input.old (S.left src.old) (parts_in Phase.AfterValue (behind brackets.old.items)) (told_by result) input.new (S.left src.new) text.new (λ t. parts_behind result brackets.new.items) }
 {
@@ -243,10 +237,9 @@ fn read_next_member<S: Source>(
 ) -> Result<Event, JsonFault>
     requires within { IsWithin Bracket.Object brackets.old.items }
     requires few { length brackets.old.items ≤ 256 }
-    ensures moves { Moves (fault_of result)
-        (S.sure src.old) input.old (lent (S.left src.old) (S.written src.old) (S.place src.old) (S.faults src.old))
-        (S.sure src.new) input.new (lent (S.left src.new) (S.written src.new) (S.place src.new) (S.faults src.new)) }
+    ensures moves { Moves (fault_of result) input.old (seen S.Counted src.old) input.new (seen S.Counted src.new) }
     ensures ok { IfOk result (λ e. IsStep (record { open_ = brackets.old.items; phase = Phase.AfterValue }) e brackets.new.items input.old input.new text.old text.new) }
+    ensures own { OnOk result (Owns input.old.bytes (S.left src.old) input.new.bytes (S.left src.new)) }
     ensures exact { (begun : Kept) → Gains begun [] text.old →
         Writes (fault_of result) begun input.old (S.left src.old) (parts_in Phase.AfterValue (behind brackets.old.items)) (told_by result) input.new (S.left src.new) text.new (λ t. parts_behind result brackets.new.items) }
 {
@@ -265,9 +258,7 @@ fn read_next_member<S: Source>(
 
 /// Behind the text's one value.
 fn read_end<S: Source>(input: &mut Input, src: &mut S) -> Result<Event, JsonFault>
-    ensures moves { Moves (fault_of result)
-        (S.sure src.old) input.old (lent (S.left src.old) (S.written src.old) (S.place src.old) (S.faults src.old))
-        (S.sure src.new) input.new (lent (S.left src.new) (S.written src.new) (S.place src.new) (S.faults src.new)) }
+    ensures moves { Moves (fault_of result) input.old (seen S.Counted src.old) input.new (seen S.Counted src.new) }
     ensures ok { IfOk result (λ e. e ≡ Event.End) }
     ensures end { OnOk result (IsAtEnd (S.left src.new)) }
     ensures exact { Goes (fault_of result) input.old (S.left src.old) (blank ∷ []) [] input.new (S.left src.new) (blank ∷ []) }
@@ -287,10 +278,9 @@ fn read_behind_value<S: Source>(
     text: &mut Buffer,
 ) -> Result<Event, JsonFault>
     requires few { length brackets.old.items ≤ 256 }
-    ensures moves { Moves (fault_of result)
-        (S.sure src.old) input.old (lent (S.left src.old) (S.written src.old) (S.place src.old) (S.faults src.old))
-        (S.sure src.new) input.new (lent (S.left src.new) (S.written src.new) (S.place src.new) (S.faults src.new)) }
+    ensures moves { Moves (fault_of result) input.old (seen S.Counted src.old) input.new (seen S.Counted src.new) }
     ensures ok { IfOk result (λ e. IsStep (record { open_ = brackets.old.items; phase = Phase.AfterValue }) e brackets.new.items input.old input.new text.old text.new) }
+    ensures own { IfOk result (λ e. e ≢ Event.End → Owns input.old.bytes (S.left src.old) input.new.bytes (S.left src.new)) }
     ensures end { result ≡ Ok Event.End → IsAtEnd (S.left src.new) }
     ensures exact { (begun : Kept) → Gains begun [] text.old →
         Writes (fault_of result) begun input.old (S.left src.old) (parts_in Phase.AfterValue (behind brackets.old.items)) (told_by result) input.new (S.left src.new) text.new (λ t. parts_behind result brackets.new.items) }
@@ -313,10 +303,9 @@ pub fn read_event<S: Source>(
 ) -> Result<Event, JsonFault>
     requires occurs { Occurs phase brackets.old.items }
     requires few { length brackets.old.items ≤ 256 }
-    ensures moves { Moves (fault_of result)
-        (S.sure src.old) input.old (lent (S.left src.old) (S.written src.old) (S.place src.old) (S.faults src.old))
-        (S.sure src.new) input.new (lent (S.left src.new) (S.written src.new) (S.place src.new) (S.faults src.new)) }
+    ensures moves { Moves (fault_of result) input.old (seen S.Counted src.old) input.new (seen S.Counted src.new) }
     ensures ok { IfOk result (λ e. IsStep (record { open_ = brackets.old.items; phase = phase }) e brackets.new.items input.old input.new text.old text.new) }
+    ensures own { IfOk result (λ e. e ≢ Event.End → Owns input.old.bytes (S.left src.old) input.new.bytes (S.left src.new)) }
     ensures end { result ≡ Ok Event.End → IsAtEnd (S.left src.new) }
     ensures exact { (begun : Kept) → Gains begun [] text.old →
         Writes (fault_of result) begun input.old (S.left src.old) (parts_in phase (behind brackets.old.items)) (told_by result) input.new (S.left src.new) text.new (λ t. parts_behind result brackets.new.items) }

@@ -1,6 +1,7 @@
 // Strings.
 ghost use Rattle.std.specs.Prelude.{◌≡◌, ◌≢◌, ℕ, ◌<◌, ◌≤◌, ◌⊎◌, List, [], ◌∷◌, ◌++◌, true, Option, None, length, IfOk, IfErr, IfSome, OnOk};
 ghost use Rattle.std.specs.Char.Utf16.{is_high_surrogate};
+ghost use Rattle.prof_io.specs.Outside.{seen};
 ghost use Rattle.prof_json.specs.Ahead.{IsNext, Passes};
 ghost use Rattle.prof_json.specs.Bytes as bytes_spec;
 ghost use Rattle.prof_grammar.specs.Machine.{Part, Role, Tail, chars, nothing, lead, told, settled, tail_low, tail_high, tail_next, with_byte};
@@ -9,7 +10,8 @@ ghost use Rattle.prof_grammar.specs.Told.{depth};
 ghost use Rattle.prof_json.specs.Goes.{Goes};
 ghost use Rattle.prof_json.specs.Writes.{Writes, silent, shown_of, value_of};
 ghost use Rattle.prof_json.specs.Kept.{Kept, Gains};
-ghost use Rattle.prof_json.specs.Moves.{Moves, lent, fault_of};
+ghost use Rattle.prof_json.specs.Own.{Owns};
+ghost use Rattle.prof_json.specs.Moves.{Moves, fault_of};
 
 use crate::JsonFault;
 use crate::buffer::Buffer;
@@ -66,9 +68,7 @@ fn read_between<S: Source>(
     low: u8,
     high: u8,
 ) -> Result<u8, JsonFault>
-    ensures moves { Moves (fault_of result)
-        (S.sure src.old) input.old (lent (S.left src.old) (S.written src.old) (S.place src.old) (S.faults src.old))
-        (S.sure src.new) input.new (lent (S.left src.new) (S.written src.new) (S.place src.new) (S.faults src.new)) }
+    ensures moves { Moves (fault_of result) input.old (seen S.Counted src.old) input.new (seen S.Counted src.new) }
     ensures between { IfOk result (λ b. (low ≤ b) × (b ≤ high)) }
     ensures further { OnOk result (input.old.place < input.new.place) }
     ensures exact { (k : Role) (s : List ℕ) (p : Option ℕ) (t : Tail) (bytes : List ℕ) (ps : List Part) → tail_low t ≡ low → tail_high t ≡ high → depth ps ≤ max_depth →
@@ -91,9 +91,7 @@ fn read_two<S: Source>(
 ) -> Result<(), JsonFault>
     requires next { IsNext first input.old }
     requires range { (194 ≤ first) × (first ≤ 223) }
-    ensures moves { Moves (fault_of result)
-        (S.sure src.old) input.old (lent (S.left src.old) (S.written src.old) (S.place src.old) (S.faults src.old))
-        (S.sure src.new) input.new (lent (S.left src.new) (S.written src.new) (S.place src.new) (S.faults src.new)) }
+    ensures moves { Moves (fault_of result) input.old (seen S.Counted src.old) input.new (seen S.Counted src.new) }
     ensures further { OnOk result (input.old.place < input.new.place) }
     ensures exact { (begun : Kept) (k : Role) (s : List ℕ) (p : Option ℕ) (ps : List Part) → Gains begun (settled s p) text.old → depth ps ≤ max_depth →
         Writes (fault_of result) begun input.old (S.left src.old) (chars k s p nothing ∷ ps) silent input.new (S.left src.new) text.new (λ t. chars k t None nothing ∷ ps) }
@@ -112,9 +110,7 @@ fn read_three<S: Source>(
 ) -> Result<(), JsonFault>
     requires next { IsNext first input.old }
     requires range { (224 ≤ first) × (first ≤ 239) }
-    ensures moves { Moves (fault_of result)
-        (S.sure src.old) input.old (lent (S.left src.old) (S.written src.old) (S.place src.old) (S.faults src.old))
-        (S.sure src.new) input.new (lent (S.left src.new) (S.written src.new) (S.place src.new) (S.faults src.new)) }
+    ensures moves { Moves (fault_of result) input.old (seen S.Counted src.old) input.new (seen S.Counted src.new) }
     ensures further { OnOk result (input.old.place < input.new.place) }
     ensures exact { (begun : Kept) (k : Role) (s : List ℕ) (p : Option ℕ) (ps : List Part) → Gains begun (settled s p) text.old → depth ps ≤ max_depth →
         Writes (fault_of result) begun input.old (S.left src.old) (chars k s p nothing ∷ ps) silent input.new (S.left src.new) text.new (λ t. chars k t None nothing ∷ ps) }
@@ -134,9 +130,7 @@ fn read_four<S: Source>(
 ) -> Result<(), JsonFault>
     requires next { IsNext first input.old }
     requires range { (240 ≤ first) × (first ≤ 244) }
-    ensures moves { Moves (fault_of result)
-        (S.sure src.old) input.old (lent (S.left src.old) (S.written src.old) (S.place src.old) (S.faults src.old))
-        (S.sure src.new) input.new (lent (S.left src.new) (S.written src.new) (S.place src.new) (S.faults src.new)) }
+    ensures moves { Moves (fault_of result) input.old (seen S.Counted src.old) input.new (seen S.Counted src.new) }
     ensures further { OnOk result (input.old.place < input.new.place) }
     ensures exact { (begun : Kept) (k : Role) (s : List ℕ) (p : Option ℕ) (ps : List Part) → Gains begun (settled s p) text.old → depth ps ≤ max_depth →
         Writes (fault_of result) begun input.old (S.left src.old) (chars k s p nothing ∷ ps) silent input.new (S.left src.new) text.new (λ t. chars k t None nothing ∷ ps) }
@@ -157,9 +151,7 @@ fn read_themselves<S: Source>(
 ) -> Result<(), JsonFault>
     requires next { IsNext first input.old }
     requires plain { (first ≢ 34) × (first ≢ 92) }
-    ensures moves { Moves (fault_of result)
-        (S.sure src.old) input.old (lent (S.left src.old) (S.written src.old) (S.place src.old) (S.faults src.old))
-        (S.sure src.new) input.new (lent (S.left src.new) (S.written src.new) (S.place src.new) (S.faults src.new)) }
+    ensures moves { Moves (fault_of result) input.old (seen S.Counted src.old) input.new (seen S.Counted src.new) }
     ensures further { OnOk result (input.old.place < input.new.place) }
     ensures exact { (begun : Kept) (k : Role) (s : List ℕ) (p : Option ℕ) (ps : List Part) → Gains begun (settled s p) text.old → depth ps ≤ max_depth →
         Writes (fault_of result) begun input.old (S.left src.old) (chars k s p nothing ∷ ps) silent input.new (S.left src.new) text.new (λ t. chars k t None nothing ∷ ps) }
@@ -194,9 +186,7 @@ fn read_piece<S: Source>(
     requires next { IsNext first input.old }
     requires piece { first ≢ 34 }
     requires high { IfSome high (λ u. is_high_surrogate u ≡ true) }
-    ensures moves { Moves (fault_of result)
-        (S.sure src.old) input.old (lent (S.left src.old) (S.written src.old) (S.place src.old) (S.faults src.old))
-        (S.sure src.new) input.new (lent (S.left src.new) (S.written src.new) (S.place src.new) (S.faults src.new)) }
+    ensures moves { Moves (fault_of result) input.old (seen S.Counted src.old) input.new (seen S.Counted src.new) }
     ensures waits { IfOk result (λ o. IfSome o (λ u. is_high_surrogate u ≡ true)) }
     ensures further { OnOk result (input.old.place < input.new.place) }
     ensures exact { (begun : Kept) (k : Role) (s : List ℕ) (ps : List Part) → Gains begun s text.old → depth ps ≤ max_depth →
@@ -216,9 +206,8 @@ pub fn read_string<S: Source>(
     src: &mut S,
     text: &mut Buffer,
 ) -> Result<(), JsonFault>
-    ensures moves { Moves (fault_of result)
-        (S.sure src.old) input.old (lent (S.left src.old) (S.written src.old) (S.place src.old) (S.faults src.old))
-        (S.sure src.new) input.new (lent (S.left src.new) (S.written src.new) (S.place src.new) (S.faults src.new)) }
+    ensures moves { Moves (fault_of result) input.old (seen S.Counted src.old) input.new (seen S.Counted src.new) }
+    ensures own { OnOk result (Owns input.old.bytes (S.left src.old) input.new.bytes (S.left src.new)) }
     ensures exact { (begun : Kept) (k : Role) (s : List ℕ) (ps : List Part) → Gains begun s text.old → depth ps ≤ max_depth →
         Writes (fault_of result) begun input.old (S.left src.old) (chars k s None nothing ∷ ps) (λ t. told k t ∷ []) input.new (S.left src.new) text.new (λ t. ps) }
 {

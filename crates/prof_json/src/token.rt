@@ -1,12 +1,14 @@
 // White space, words and the byte order mark.
 ghost use Rattle.std.specs.Prelude.{◌≡◌, ◌+◌, ◌≤◌, ◌∷◌, List, [], false, None, length, IfOk, IfSome, OnOk};
+ghost use Rattle.prof_io.specs.Outside.{seen};
 ghost use Rattle.prof_json.specs.Ahead.{IsNext, IsShown};
 ghost use Rattle.prof_json.specs.Bytes.{is_space};
 ghost use Rattle.prof_grammar.specs.Machine.{Part, Literal, blank, mark, finish};
 ghost use Rattle.prof_grammar.specs.Reading.{max_depth};
 ghost use Rattle.prof_grammar.specs.Told.{depth};
 ghost use Rattle.prof_json.specs.Goes.{Goes, behind_word, told_behind};
-ghost use Rattle.prof_json.specs.Moves.{Moves, lent, fault_of};
+ghost use Rattle.prof_json.specs.Own.{ReadsOff};
+ghost use Rattle.prof_json.specs.Moves.{Moves, fault_of};
 
 use crate::JsonFault;
 use crate::input::Input;
@@ -15,9 +17,7 @@ use prof_io::Source;
 
 /// Passes over white space, and shows the byte behind it.
 pub fn skip_blank<S: Source>(input: &mut Input, src: &mut S) -> Result<Option<u8>, JsonFault>
-    ensures moves { Moves (fault_of result)
-        (S.sure src.old) input.old (lent (S.left src.old) (S.written src.old) (S.place src.old) (S.faults src.old))
-        (S.sure src.new) input.new (lent (S.left src.new) (S.written src.new) (S.place src.new) (S.faults src.new)) }
+    ensures moves { Moves (fault_of result) input.old (seen S.Counted src.old) input.new (seen S.Counted src.new) }
     ensures shown { IfOk result (λ o. IsShown o input.new (S.left src.new)) }
     ensures behind { IfOk result (λ o. IfSome o (λ b. is_space b ≡ false)) }
     ensures exact { (ps : List Part) → depth ps ≤ max_depth → Goes (fault_of result) input.old (S.left src.old) (blank ∷ ps) [] input.new (S.left src.new) (blank ∷ ps) }
@@ -38,9 +38,7 @@ pub fn skip_blank<S: Source>(input: &mut Input, src: &mut S) -> Result<Option<u8
 
 /// Passes over white space, and shows the byte behind it, where the text can't end.
 pub fn need_behind_blank<S: Source>(input: &mut Input, src: &mut S) -> Result<u8, JsonFault>
-    ensures moves { Moves (fault_of result)
-        (S.sure src.old) input.old (lent (S.left src.old) (S.written src.old) (S.place src.old) (S.faults src.old))
-        (S.sure src.new) input.new (lent (S.left src.new) (S.written src.new) (S.place src.new) (S.faults src.new)) }
+    ensures moves { Moves (fault_of result) input.old (seen S.Counted src.old) input.new (seen S.Counted src.new) }
     ensures byte { IfOk result (λ b. IsNext b input.new) }
     ensures behind { IfOk result (λ b. is_space b ≡ false) }
     ensures exact { (ps : List Part) → depth ps ≤ max_depth → finish ps ≡ None → Goes (fault_of result) input.old (S.left src.old) (blank ∷ ps) [] input.new (S.left src.new) (blank ∷ ps) }
@@ -54,10 +52,9 @@ pub fn need_behind_blank<S: Source>(input: &mut Input, src: &mut S) -> Result<u8
 
 /// Passes over a fixed text.
 pub fn pass_word<S: Source>(input: &mut Input, src: &mut S, word: &[u8]) -> Result<(), JsonFault>
-    ensures moves { Moves (fault_of result)
-        (S.sure src.old) input.old (lent (S.left src.old) (S.written src.old) (S.place src.old) (S.faults src.old))
-        (S.sure src.new) input.new (lent (S.left src.new) (S.written src.new) (S.place src.new) (S.faults src.new)) }
+    ensures moves { Moves (fault_of result) input.old (seen S.Counted src.old) input.new (seen S.Counted src.new) }
     ensures further { OnOk result (input.old.place + length word.now ≡ input.new.place) }
+    ensures read { OnOk result (ReadsOff word.now input.old.bytes (S.left src.old) input.new.bytes (S.left src.new)) }
     ensures exact { (w : Literal) (ps : List Part) → depth ps ≤ max_depth →
         Goes (fault_of result) input.old (S.left src.old) (behind_word word.now w ps) (told_behind word.now w) input.new (S.left src.new) ps }
 {
@@ -77,9 +74,7 @@ pub fn pass_word<S: Source>(input: &mut Input, src: &mut S, word: &[u8]) -> Resu
 
 /// Passes over a byte order mark, if there is one.
 pub fn pass_mark<S: Source>(input: &mut Input, src: &mut S) -> Result<(), JsonFault>
-    ensures moves { Moves (fault_of result)
-        (S.sure src.old) input.old (lent (S.left src.old) (S.written src.old) (S.place src.old) (S.faults src.old))
-        (S.sure src.new) input.new (lent (S.left src.new) (S.written src.new) (S.place src.new) (S.faults src.new)) }
+    ensures moves { Moves (fault_of result) input.old (seen S.Counted src.old) input.new (seen S.Counted src.new) }
     ensures exact { (ps : List Part) → depth ps ≤ max_depth → Goes (fault_of result) input.old (S.left src.old) (mark ∷ ps) [] input.new (S.left src.new) ps }
 {
     match input.peek(src)? {

@@ -3,6 +3,7 @@ ghost use Rattle.std.specs.Prelude.{◌≡◌, ◌||◌, ◌==◌, ℕ, ◌<◌,
 ghost use Rattle.prof_grammar.specs.Event.{number};
 ghost use Rattle.prof_grammar.specs.Machine as machine;
 ghost use Rattle.prof_grammar.specs.Machine.{Part, class, step};
+ghost use Rattle.prof_io.specs.Outside.{seen};
 ghost use Rattle.prof_json.specs.Ahead.{IsNext, Passes};
 ghost use Rattle.prof_json.specs.Bytes as bytes_spec;
 ghost use Rattle.prof_json.specs.Writes.{Writes};
@@ -11,7 +12,8 @@ ghost use Rattle.prof_json.specs.Kept.{Kept, Adds, Gains};
 ghost use Rattle.prof_json.specs.Parts.{behind};
 ghost use Rattle.prof_json.specs.Numbers.{IsNumeral};
 ghost use Rattle.prof_json.specs.Step.{BeginsValue};
-ghost use Rattle.prof_json.specs.Moves.{Moves, lent, fault_of};
+ghost use Rattle.prof_json.specs.Own.{Owns};
+ghost use Rattle.prof_json.specs.Moves.{Moves, fault_of};
 
 use crate::behind::may_follow;
 use crate::buffer::Buffer;
@@ -65,11 +67,10 @@ fn read_whole_number<S: Source>(
 ) -> Result<(), JsonFault>
     requires next { IsNext first input.old }
     requires begins { (first ≡ 45) ⊎ (bytes_spec.is_digit first ≡ true) }
-    ensures moves { Moves (fault_of result)
-        (S.sure src.old) input.old (lent (S.left src.old) (S.written src.old) (S.place src.old) (S.faults src.old))
-        (S.sure src.new) input.new (lent (S.left src.new) (S.written src.new) (S.place src.new) (S.faults src.new)) }
+    ensures moves { Moves (fault_of result) input.old (seen S.Counted src.old) input.new (seen S.Counted src.new) }
     ensures text { OnOk result (Adds IsNumeral text.old text.new) }
     ensures further { OnOk result (input.old.place < input.new.place) }
+    ensures own { OnOk result (Owns input.old.bytes (S.left src.old) input.new.bytes (S.left src.new)) }
     ensures exact { (begun : Kept) (qs : List Part) → step qs (class first) first ≡ machine.begin_value (class first) first (behind brackets.now) → Gains begun [] text.old → length brackets.now ≤ 256 →
         Writes (fault_of result) begun input.old (S.left src.old) qs (λ t. number t ∷ []) input.new (S.left src.new) text.new (λ t. behind brackets.now) }
 {
@@ -91,10 +92,9 @@ pub fn begin_value<S: Source>(
 ) -> Result<Event, JsonFault>
     requires next { IsNext first input.old }
     requires few { length brackets.old.items ≤ 256 }
-    ensures moves { Moves (fault_of result)
-        (S.sure src.old) input.old (lent (S.left src.old) (S.written src.old) (S.place src.old) (S.faults src.old))
-        (S.sure src.new) input.new (lent (S.left src.new) (S.written src.new) (S.place src.new) (S.faults src.new)) }
+    ensures moves { Moves (fault_of result) input.old (seen S.Counted src.old) input.new (seen S.Counted src.new) }
     ensures ok { IfOk result (λ e. BeginsValue brackets.old.items e brackets.new.items input.old input.new text.old text.new) }
+    ensures own { OnOk result (Owns input.old.bytes (S.left src.old) input.new.bytes (S.left src.new)) }
     ensures exact { (begun : Kept) (qs : List Part) → step qs (class first) first ≡ machine.begin_value (class first) first (behind brackets.old.items) → Gains begun [] text.old →
         Writes (fault_of result) begun input.old (S.left src.old) qs (told_by result) input.new (S.left src.new) text.new (λ t. parts_behind result brackets.new.items) }
 {

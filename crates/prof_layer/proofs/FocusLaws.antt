@@ -9,8 +9,7 @@ use Rattle.prof_tables.specs.declared.rows.StackRow.{StackRow}
 use Rattle.prof_tables.specs.declared.rows.Step.{Step}
 use Rattle.prof_tables.specs.Threads.{SharedTables}
 use Rattle.prof_tables.specs.Paths.{path, step_of, PrefixesBelow}
-use Rattle.prof_tables.proofs.PathRows.{path-row}
-use Rattle.prof_tables.proofs.RowLists.{slice_get-push_other, slice_get-push_last, length-push}
+use Rattle.prof_tables.proofs.PathLemmas.{path-row}
 use Rattle.prof_path.specs.declared.lists.Span.{Span}
 use Rattle.prof_path.specs.declared.transform.Implementation.{Implementation}
 use Rattle.prof_path.specs.declared.transform.Transform.TheVariants.{FocusSubtree}
@@ -21,6 +20,7 @@ use Rattle.prof_layer.specs.declared.focusing.Node.{Node}
 use Rattle.prof_layer.specs.Rewritten.{IsRowOf, entry_at, AreRows, IsRewritten}
 use Rattle.prof_layer.specs.Focusing.{nearest, end_above, node_of, AreNodes, IsLinked}
 use Rattle.prof_layer.proofs.RowLaws.{path-none}
+use Rattle.prof_raw.proofs.PushLemmas.{slice_get-push_other, slice_get-push_last, length-push}
 
 -- one function more of the call node
 abbrev turn : List Node → ℕ → List ℕ → ℕ → Option Node → Option ℕ

@@ -4,7 +4,6 @@ use Rattle.std.specs.Prelude.{slice_get}
 use Rattle.std.specs.List.{All, list_any}
 use Rattle.std.proofs.lemmas.Bool.{cases_lt}
 use Rattle.std.proofs.lemmas.List.Folds.{list_all-append}
-use Rattle.prof_tables.proofs.RowLists.{slice_get-push_other, slice_get-push_last}
 use Rattle.std.proofs.lemmas.Option.{none-some, slice_get-get_or}
 use Rattle.std.proofs.lemmas.List.FromFn.{get_or-map-range_with_len, length-map-range_with_len}
 use Rattle.std.proofs.lemmas.List.Elements.{All-weaker}
@@ -25,6 +24,7 @@ use Rattle.prof_layer.specs.Kept.{found_of, is_kept}
 use Rattle.prof_layer.specs.declared.layer.Table.{Table}
 use Rattle.prof_layer.specs.Stacked.{rows_over, entries_over, AreLayers}
 use Rattle.prof_layer.proofs.RowLaws.{path-none}
+use Rattle.prof_raw.proofs.PushLemmas.{slice_get-push_other, slice_get-push_last}
 
 -- the empty path stays empty
 pub all-empty : (t : SharedTables) (ts : List Transform) (spans : List (List Span)) (m : ℤ) → rewrite_all t ts spans [] m ≡ []

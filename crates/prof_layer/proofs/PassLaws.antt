@@ -9,8 +9,7 @@ use Rattle.prof_tables.specs.declared.rows.Step.{Step}
 use Rattle.prof_tables.specs.declared.rows.StackRow.{StackRow}
 use Rattle.prof_tables.specs.Threads.{SharedTables}
 use Rattle.prof_tables.specs.Paths.{path, step_of, PrefixesBelow}
-use Rattle.prof_tables.proofs.PathRows.{path-row}
-use Rattle.prof_tables.proofs.RowLists.{slice_get-push_other, slice_get-push_last, length-push}
+use Rattle.prof_tables.proofs.PathLemmas.{path-row}
 use Rattle.prof_path.specs.declared.lists.Span.{Span}
 use Rattle.prof_path.specs.declared.transform.Transform.{Transform}
 use Rattle.prof_path.specs.declared.transform.Transform.TheVariants.{MergeFunction, MergeCallNode, DropFunction, FocusSubtree, FocusFunction, FocusCategory, CollapseResource, CollapseDirectRecursion, CollapseRecursion, CollapseFunctionSubtree, FilterSamples}
@@ -24,6 +23,7 @@ use Rattle.prof_layer.specs.Rewritten.{IsRowOf, entry_at, IsRewritten}
 use Rattle.prof_layer.specs.Passing.{root, place_of, out_after, rows_after, first_after, place_after, IsPlace, IsPassed}
 use Rattle.prof_layer.proofs.ActLaws.{hit-step, met-step, act-step, first-step}
 use Rattle.prof_layer.proofs.RowLaws.{path-none, entry-below, act-row, rows_after-prefixes, rows_after-length, IsRowOf-after}
+use Rattle.prof_raw.proofs.PushLemmas.{slice_get-push_other, slice_get-push_last, length-push}
 
 -- the place of the empty path
 met-empty : (t : SharedTables) (tr : Transform) → Some 0 ≡ met_of t tr []

@@ -4,14 +4,15 @@ use Rattle.std.specs.Prelude.{IfSome}
 use Rattle.prof_tables.specs.declared.rows.Step.{Step}
 use Rattle.prof_tables.specs.declared.rows.StackRow.{StackRow}
 use Rattle.prof_tables.specs.Paths.{path, step_of, PrefixesBelow}
-use Rattle.prof_tables.proofs.PathRows.{path-row, path-append}
-use Rattle.prof_tables.proofs.RowLists.{PrefixesBelow-push, slice_get-push_last}
+use Rattle.prof_tables.proofs.PathLemmas.{path-row, path-append}
+use Rattle.prof_tables.proofs.RowLemmas.{PrefixesBelow-push}
 use Rattle.prof_layer.specs.declared.acts.Act.{Act}
 use Rattle.prof_layer.specs.declared.acts.Act.TheVariants.{Stay, Below, Empty, Back}
 use Rattle.prof_layer.specs.declared.passing.Place.{Place}
 use Rattle.prof_layer.specs.Acts.{acted}
 use Rattle.prof_layer.specs.Rewritten.{IsRowOf}
 use Rattle.prof_layer.specs.Passing.{out_after, rows_after}
+use Rattle.prof_raw.proofs.PushLemmas.{slice_get-push_last}
 
 -- no stack has the empty path
 pub path-none : (rows : List StackRow) → path rows None ≡ []

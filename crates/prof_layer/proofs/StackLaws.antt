@@ -11,7 +11,6 @@ use Rattle.prof_tables.specs.declared.rows.Step.{Step}
 use Rattle.prof_tables.specs.declared.rows.StackRow.{StackRow}
 use Rattle.prof_tables.specs.Threads.{SharedTables, ThreadTables}
 use Rattle.prof_tables.specs.Paths.{path}
-use Rattle.prof_tables.proofs.RowLists.{slice_get-push_last}
 use Rattle.prof_path.specs.declared.lists.Span.{Span}
 use Rattle.prof_path.specs.declared.transform.Transform.{Transform}
 use Rattle.prof_path.specs.Rewriting.{rewrite, rewrite_all}
@@ -22,6 +21,7 @@ use Rattle.prof_layer.specs.Following.{follow}
 use Rattle.prof_layer.specs.Simulates.{is_of_samples, of_rows, Stands}
 use Rattle.prof_layer.specs.Kept.{found_of, AreFlags}
 use Rattle.prof_layer.specs.Stacked.{rows_over, entries_over, AreLayers}
+use Rattle.prof_raw.proofs.PushLemmas.{slice_get-push_last}
 
 -- one more transform of rows
 rewrite_all-more : (t : SharedTables) (ts : List Transform) (tr : Transform) (x : List Step) (m : ℤ) → rewrite_all t (ts ++ tr ∷ []) [] x m ≡ rewrite t tr [] (rewrite_all t ts [] x m) m

@@ -11,6 +11,4 @@ mod rewriting;
 mod settling;
 
 pub use layers::Layers;
-
-#[cfg(test)]
-mod tests;
+pub use settling::same;

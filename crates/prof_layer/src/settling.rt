@@ -19,8 +19,8 @@ fn same_path(a: &FuncPath, b: &FuncPath) -> bool
     a.as_slice() == b.as_slice()
 }
 
-/// Whether two transforms are the same.
-fn same(a: &Transform, b: &Transform) -> bool
+/// Whether two transforms are the same: of one kind, with the same fields.
+pub fn same(a: &Transform, b: &Transform) -> bool
     ensures { IsTrue result ↔ (a.now ≡ b.now) }
 {
     use Transform::*;

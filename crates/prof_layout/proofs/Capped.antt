@@ -5,12 +5,12 @@ use Rattle.std.proofs.lemmas.Bool.{cases_lt}
 use Rattle.std.proofs.lemmas.Bool.Decides.{nat_tests}
 use Rattle.std.proofs.lemmas.List.{take_all, length-take-le, length-map}
 use Rattle.prof_grammar.specs.Value.{Value, items}
-use Rattle.prof_tables.specs.declared.rule.Table.{Table}
-use Rattle.prof_tables.specs.declared.rule.Column.{Column}
-use Rattle.prof_tables.specs.declared.rule.BadCell.{BadCell}
-use Rattle.prof_tables.specs.Cells.{Cells}
-use Rattle.prof_tables.specs.Checks.{first_column, needed_column, optional_column}
-use Rattle.prof_tables.specs.Moments.{time_fault, moment_fault}
+use Rattle.prof_raw.specs.declared.rule.Table.{Table}
+use Rattle.prof_raw.specs.declared.rule.Column.{Column}
+use Rattle.prof_raw.specs.declared.rule.BadCell.{BadCell}
+use Rattle.prof_raw.specs.Cells.{Cells}
+use Rattle.prof_raw.specs.Checks.{first_column, needed_column, optional_column}
+use Rattle.prof_raw.specs.Moments.{time_fault, moment_fault}
 use Rattle.prof_layout.specs.Columns.{Cell, cell_value, first_bad, gathered, column_of, kept_bad, capped, IsGathered}
 
 -- the first bad cell is one of the cells

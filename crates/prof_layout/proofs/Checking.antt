@@ -3,18 +3,18 @@ use Rattle.std.proofs.Common.{◌≡◌, ℕ, suc, ◌+◌, ◌≤◌, Option, N
 use Rattle.std.specs.Option.{option_or}
 use Rattle.std.proofs.lemmas.List.{length-map}
 use Rattle.prof_grammar.specs.Value.{Value}
-use Rattle.prof_tables.specs.declared.rule.Table.{Table}
-use Rattle.prof_tables.specs.declared.rule.Table.TheVariants as table
-use Rattle.prof_tables.specs.declared.rule.Column.{Column}
-use Rattle.prof_tables.specs.declared.rule.Column.TheVariants as column
-use Rattle.prof_tables.specs.declared.rule.ListFault.{ListFault}
-use Rattle.prof_tables.specs.declared.rule.Broken.{Broken}
-use Rattle.prof_tables.specs.Checks.{named}
+use Rattle.prof_raw.specs.declared.rule.Table.{Table}
+use Rattle.prof_raw.specs.declared.rule.Table.TheVariants as table
+use Rattle.prof_raw.specs.declared.rule.Column.{Column}
+use Rattle.prof_raw.specs.declared.rule.Column.TheVariants as column
+use Rattle.prof_raw.specs.declared.rule.ListFault.{ListFault}
+use Rattle.prof_raw.specs.declared.rule.Broken.{Broken}
+use Rattle.prof_raw.specs.Checks.{named}
 use Rattle.prof_layout.specs.Lists.{items_of, text_of, is_text, is_object, needed_list_fault}
-use Rattle.prof_layout.specs.Tables.{most_strings}
-use Rattle.prof_layout.specs.Profile.{is_processed, categories_broken, common_of, common_broken, base_broken, threads_member, most_threads, threads_broken, thread_fails, first_thread, processed_broken, unknown_format, broken}
+use Rattle.prof_layout.specs.Profile.{is_processed, categories_broken, common_of, common_broken, base_broken, threads_member, threads_broken, thread_fails, first_thread, processed_broken, unknown_format, broken}
 use Rattle.prof_layout.proofs.Kept.{none_of}
 use Rattle.prof_layout.proofs.KeptValue.{needed_few}
+use Rattle.prof_raw.specs.declared.limits.TheConstants.{MOST_STRINGS, MOST_THREADS}
 
 or-none : (o : Option Broken) → option_or o None ≡ o
 or-none None = refl
@@ -96,13 +96,13 @@ fault-none thread t c None h = refl
 fault-none thread t c (Some f) h = cc
 
 -- a list that was checked has at most the most rows
-pub threads-few : (v : Value) → threads_broken v ≡ None → length (items_of (threads_member v)) ≤ most_threads
+pub threads-few : (v : Value) → threads_broken v ≡ None → length (items_of (threads_member v)) ≤ MOST_THREADS
 unfolding threads_broken
-threads-few v h = needed_few is_object most_threads (threads_member v) (fault-none None table.Threads column.List (needed_list_fault is_object most_threads (threads_member v)) h)
+threads-few v h = needed_few is_object MOST_THREADS (threads_member v) (fault-none None table.Threads column.List (needed_list_fault is_object MOST_THREADS (threads_member v)) h)
 
-pub common-few : (member : Option Value) → common_broken member ≡ None → IfSome (common_of member) (λ strings. length strings ≤ most_strings)
+pub common-few : (member : Option Value) → common_broken member ≡ None → IfSome (common_of member) (λ strings. length strings ≤ MOST_STRINGS)
 common-few None h = tt
 common-few (Some strings) h =
-    let few : length (items_of (Some strings)) ≤ most_strings = needed_few is_text most_strings (Some strings) (fault-none None table.StringArray column.List (needed_list_fault is_text most_strings (Some strings)) h) in
+    let few : length (items_of (Some strings)) ≤ MOST_STRINGS = needed_few is_text MOST_STRINGS (Some strings) (fault-none None table.StringArray column.List (needed_list_fault is_text MOST_STRINGS (Some strings)) h) in
     let e = length-map (items_of (Some strings)) text_of in
     omega arith

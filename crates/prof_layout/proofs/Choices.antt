@@ -3,10 +3,10 @@ use Rattle.std.proofs.Common.{◌≡◌, ◌≢◌, ℕ, Option, None, Some, Lis
 use Rattle.std.specs.Prelude.{codes, is_some, not, ◌&&◌, if◌then◌else◌}
 use Rattle.std.proofs.lemmas.Bool.{cases_Bool}
 use Rattle.prof_grammar.specs.Value.{Value}
-use Rattle.prof_tables.specs.declared.raw.State.TheVariants.{Absent, NotArray, Array}
-use Rattle.prof_tables.specs.declared.rows.Unit.{Unit as WeightUnit}
-use Rattle.prof_tables.specs.declared.rows.Unit.TheVariants as unit
-use Rattle.prof_tables.specs.Cells.{Cells}
+use Rattle.prof_raw.specs.declared.raw.State.TheVariants.{Absent, NotArray, Array}
+use Rattle.prof_raw.specs.declared.raw.Unit.{Unit as WeightUnit}
+use Rattle.prof_raw.specs.declared.raw.Unit.TheVariants as unit
+use Rattle.prof_raw.specs.Cells.{Cells}
 use Rattle.prof_layout.specs.declared.reading.Reading.TheVariants as reading
 use Rattle.prof_layout.specs.Columns.{Cell, read_cell, column_of, raw_column, absent}
 use Rattle.prof_layout.specs.Lists.{unless_null}

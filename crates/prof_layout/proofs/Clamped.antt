@@ -3,7 +3,7 @@ use Rattle.std.proofs.Common.{◌≡◌, ℕ, zero, suc, ◌-◌, ◌^◌, ◌<�
 use Rattle.std.specs.Prelude.{ℤ, pos, negsuc, min, nat_lt, unsigned_abs}
 use Rattle.std.proofs.lemmas.Bool.{cases_lt}
 use Rattle.std.proofs.lemmas.Bool.Decides.{nat_tests}
-use Rattle.prof_tables.specs.Rules.{index_rule, minus_or_index_rule, prefix_rule, phase_rule}
+use Rattle.prof_raw.specs.Rules.{index_rule, minus_or_index_rule, prefix_rule, phase_rule}
 use Rattle.prof_layout.specs.Columns.{clamped}
 
 -- below a limit of so few, the nearest number is below where the number is

@@ -4,20 +4,20 @@ use Rattle.std.specs.Prelude.{ℤ, codes, pos, negsuc}
 use Rattle.prof_time.specs.Scaled.{over, under}
 use Rattle.prof_time.specs.TakenApart.{numeral_of}
 use Rattle.prof_grammar.specs.Value.{Value, Values, Members, value, no_values, member, no_members}
-use Rattle.prof_tables.specs.declared.rule.Rule.{Rule}
-use Rattle.prof_tables.specs.declared.rule.Rule.TheVariants as rule
-use Rattle.prof_tables.specs.declared.rule.Table.{Table}
-use Rattle.prof_tables.specs.declared.rule.Table.TheVariants as table
-use Rattle.prof_tables.specs.declared.rule.Column.{Column}
-use Rattle.prof_tables.specs.declared.rule.Column.TheVariants as column
-use Rattle.prof_tables.specs.declared.rule.Broken.{Broken}
+use Rattle.prof_raw.specs.declared.rule.Rule.{Rule}
+use Rattle.prof_raw.specs.declared.rule.Rule.TheVariants as rule
+use Rattle.prof_raw.specs.declared.rule.Table.{Table}
+use Rattle.prof_raw.specs.declared.rule.Table.TheVariants as table
+use Rattle.prof_raw.specs.declared.rule.Column.{Column}
+use Rattle.prof_raw.specs.declared.rule.Column.TheVariants as column
+use Rattle.prof_raw.specs.declared.rule.Broken.{Broken}
 use Rattle.prof_tables.specs.declared.rows.StackRow.{StackRow}
 use Rattle.prof_tables.specs.declared.rows.SampleRow.{SampleRow}
 use Rattle.prof_tables.specs.declared.markers.RawMarker.{RawMarker}
-use Rattle.prof_tables.specs.Checks.{strings_broken, resources_broken, funcs_broken, frames_broken, stacks_broken, shared_broken, samples_broken, markers_broken, own_broken}
+use Rattle.prof_raw.specs.Checks.{strings_broken, resources_broken, funcs_broken, frames_broken, stacks_broken, shared_broken, samples_broken, markers_broken, own_broken}
 use Rattle.prof_tables.specs.Rows.{resources_of, funcs_of, frames_of, stack_frames_of, stacks_below, stacks_of, samples_of, marker_rows_of, markers_of}
 use Rattle.prof_tables.specs.Threads.{Func, SharedTables}
-use Rattle.prof_tables.specs.declared.rows.Unit.TheVariants as unit
+use Rattle.prof_raw.specs.declared.raw.Unit.TheVariants as unit
 use Rattle.prof_layout.specs.Markers.{all_texts, ranges_from}
 use Rattle.prof_layout.specs.Numbers.{scaled_of, whole_of}
 use Rattle.prof_layout.specs.Tables.{raw_shared, raw_tables, raw_own}

@@ -6,10 +6,10 @@ use Rattle.std.proofs.lemmas.Bool.{cases_lt}
 use Rattle.std.proofs.lemmas.Bool.Decides.{nat_tests}
 use Rattle.std.proofs.lemmas.List.{map_push, length-map}
 use Rattle.prof_grammar.specs.Value.{Value}
-use Rattle.prof_tables.specs.declared.raw.State.TheVariants.{Array}
-use Rattle.prof_tables.specs.declared.rule.Rule.{Rule}
-use Rattle.prof_tables.specs.declared.rule.BadCell.{BadCell}
-use Rattle.prof_tables.specs.Cells.{Cells}
+use Rattle.prof_raw.specs.declared.raw.State.TheVariants.{Array}
+use Rattle.prof_raw.specs.declared.rule.Rule.{Rule}
+use Rattle.prof_raw.specs.declared.rule.BadCell.{BadCell}
+use Rattle.prof_raw.specs.Cells.{Cells}
 use Rattle.prof_layout.specs.Columns.{Cell, cell_value, first_bad, gathered, kept_bad, capped}
 use Rattle.prof_layout.proofs.Capped.{gathered_is, capped_same}
 use Rattle.prof_layout.proofs.Items.{length-push, kept-full, kept-whole, kept-push}

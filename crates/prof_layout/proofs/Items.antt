@@ -7,8 +7,8 @@ use Rattle.std.proofs.lemmas.Bool.{cases_lt, cases_Bool}
 use Rattle.std.proofs.lemmas.List.{append-nil, take_all, length-take-le}
 use Rattle.prof_grammar.specs.Event.{Event}
 use Rattle.prof_grammar.specs.Value.{Value, Values, no_values, value, items, flatten, flatten_values}
-use Rattle.prof_tables.specs.declared.rule.Rule.TheVariants as rule
-use Rattle.prof_tables.specs.Rules.{whole_fault}
+use Rattle.prof_raw.specs.declared.rule.Rule.TheVariants as rule
+use Rattle.prof_raw.specs.Rules.{whole_fault}
 use Rattle.prof_layout.specs.Lists.{first_where, first_unfit, wrong_kind, list_fault}
 use Rattle.prof_layout.proofs.KeptValue.{list_kept}
 

@@ -4,23 +4,24 @@ use Rattle.std.specs.Prelude.{codes, nat_le, map, is_some, if◌then◌else◌}
 use Rattle.std.proofs.lemmas.Bool.{cases_lt}
 use Rattle.std.proofs.lemmas.List.{take_all, length-map, length-take-le}
 use Rattle.prof_grammar.specs.Value.{Value, items, field, last_named}
-use Rattle.prof_tables.specs.declared.rule.Rule.TheVariants as rule
-use Rattle.prof_tables.specs.declared.rule.ListFault.{ListFault}
-use Rattle.prof_tables.specs.Cells.{SharedCells}
+use Rattle.prof_raw.specs.declared.rule.Rule.TheVariants as rule
+use Rattle.prof_raw.specs.declared.rule.ListFault.{ListFault}
+use Rattle.prof_raw.specs.Cells.{SharedCells}
 use Rattle.prof_tables.specs.Threads.{SharedTables}
-use Rattle.prof_tables.specs.Rules.{whole_fault}
-use Rattle.prof_tables.specs.Checks.{shared_broken, own_broken, thread_broken}
+use Rattle.prof_raw.specs.Rules.{whole_fault}
+use Rattle.prof_raw.specs.Checks.{shared_broken, own_broken, thread_broken}
 use Rattle.prof_tables.specs.Rows.{shared_of, thread_of}
 use Rattle.prof_layout.specs.declared.reading.Reading.{Reading}
 use Rattle.prof_layout.specs.declared.reading.Reading.TheVariants as reading
 use Rattle.prof_layout.specs.Columns.{IsGathered, column_of, any_cell, cell_value, read_cell}
 use Rattle.prof_layout.specs.Lists.{unless_null, items_of, texts_of, text_of, is_text, list_fault, needed_list_fault}
-use Rattle.prof_layout.specs.Tables.{member_of, first_cells, needed_cells, optional_cells, most_strings, strings_fault, shared_over, raw_shared, over_strings, raw_tables, weight_unit, weight_reading, has_deltas, raw_own, raw_thread}
+use Rattle.prof_layout.specs.Tables.{member_of, first_cells, needed_cells, optional_cells, strings_fault, shared_over, raw_shared, over_strings, raw_tables, weight_unit, weight_reading, has_deltas, raw_own, raw_thread}
 use Rattle.prof_layout.specs.Markers.{all_texts, ranges_from}
 use Rattle.prof_layout.specs.Kept.{kept_shared, kept_own, kept_thread, marker_values, AreGathered, AreOwnGathered}
 use Rattle.prof_layout.proofs.Capped.{column_is}
 use Rattle.prof_layout.proofs.Kept.{or_same, none_of, not_within, shared_kept, shared_whole}
 use Rattle.prof_layout.proofs.KeptOwn.{own_kept, own_whole}
+use Rattle.prof_raw.specs.declared.limits.TheConstants.{MOST_STRINGS}
 
 pub first_is : (r : Reading) (table : Option Value) (name : List ℕ) → IsGathered (first_cells r table name)
 first_is r None name = record { bad = tt; only = λ ne. refl }
@@ -42,7 +43,7 @@ no_cells : (r : Reading) (table : Option Value) (name : List ℕ) → is_some ta
 no_cells r None name e = refl
 no_cells r (Some v) name e = cc
 
-pub shared_gathered : (strings : List (List ℕ)) (fault : Option ListFault) (v : Value) → (fault ≡ None → length strings ≤ most_strings) → AreGathered (shared_over strings fault v)
+pub shared_gathered : (strings : List (List ℕ)) (fault : Option ListFault) (v : Value) → (fault ≡ None → length strings ≤ MOST_STRINGS) → AreGathered (shared_over strings fault v)
 shared_gathered strings fault v few =
     let resources = unless_null (field (codes "resourceTable") v) in
     let funcs = field (codes "funcTable") v in
@@ -90,19 +91,19 @@ list_kept fits most vs = elim (cases_lt most (length vs)) [
   | inr within ↦ ap (list_fault fits most) (take_all (suc most) vs (omega arith))
 ]
 
-strings_few : (member : Option Value) → strings_fault member ≡ None → length (texts_of member) ≤ most_strings
-strings_few member h = let few : length (items_of member) ≤ most_strings = needed_few is_text most_strings member h in let e = length-map (items_of member) text_of in omega arith
+strings_few : (member : Option Value) → strings_fault member ≡ None → length (texts_of member) ≤ MOST_STRINGS
+strings_few member h = let few : length (items_of member) ≤ MOST_STRINGS = needed_few is_text MOST_STRINGS member h in let e = length-map (items_of member) text_of in omega arith
 
 pub raw_shared-gathered : (v : Value) → AreGathered (raw_shared v)
 unfolding raw_shared
 raw_shared-gathered v = let strings = field (codes "stringArray") v in shared_gathered (texts_of strings) (strings_fault strings) v (strings_few strings)
 
-over-gathered : (common : Option (List (List ℕ))) (own : Option Value) (v : Value) → IfSome common (λ strings. length strings ≤ most_strings) → AreGathered (over_strings common own v)
+over-gathered : (common : Option (List (List ℕ))) (own : Option Value) (v : Value) → IfSome common (λ strings. length strings ≤ MOST_STRINGS) → AreGathered (over_strings common own v)
 over-gathered None own v few = shared_gathered (texts_of own) (strings_fault own) v (strings_few own)
 over-gathered (Some strings) None v few = shared_gathered strings None v (λ e. few)
 over-gathered (Some strings) (Some own) v few = shared_gathered (texts_of (Some own)) (strings_fault (Some own)) v (strings_few (Some own))
 
-pub raw_tables-gathered : (common : Option (List (List ℕ))) (v : Value) → IfSome common (λ strings. length strings ≤ most_strings) → AreGathered (raw_tables common v)
+pub raw_tables-gathered : (common : Option (List (List ℕ))) (v : Value) → IfSome common (λ strings. length strings ≤ MOST_STRINGS) → AreGathered (raw_tables common v)
 unfolding raw_tables
 raw_tables-gathered common v few = over-gathered common (field (codes "stringArray") v) v few
 
@@ -156,7 +157,7 @@ shared_breaks thread categories v = shared_kept thread categories (raw_shared v)
 pub shared_stands : (thread : Option ℕ) (categories : ℕ) (v : Value) → shared_broken thread categories (raw_shared v) ≡ None → kept_shared (raw_shared v) ≡ raw_shared v
 shared_stands thread categories v none = shared_whole thread categories (raw_shared v) (raw_shared-gathered v) none
 
-pub thread_breaks : (number categories : ℕ) (common : Option (List (List ℕ))) (v : Value) → IfSome common (λ strings. length strings ≤ most_strings) →
+pub thread_breaks : (number categories : ℕ) (common : Option (List (List ℕ))) (v : Value) → IfSome common (λ strings. length strings ≤ MOST_STRINGS) →
     thread_broken number categories (kept_thread common v) ≡ thread_broken number categories (raw_thread common v)
 thread_breaks number categories common v few =
     let raw = raw_tables common v in
@@ -168,7 +169,7 @@ thread_breaks number categories common v few =
     (λ none. ap (λ (t : SharedCells). own_broken (Some number) (length t.strings) (length t.stack_frame.cells) (kept_own v)) (shared_whole (Some number) categories raw h none)
     ∙ own_breaks (Some number) (length raw.strings) (length raw.stack_frame.cells) v)
 
-pub thread_stands : (number categories default : ℕ) (common : Option (List (List ℕ))) (v : Value) → IfSome common (λ strings. length strings ≤ most_strings) →
+pub thread_stands : (number categories default : ℕ) (common : Option (List (List ℕ))) (v : Value) → IfSome common (λ strings. length strings ≤ MOST_STRINGS) →
     thread_broken number categories (raw_thread common v) ≡ None →
     thread_of (shared_of categories default (kept_shared (raw_tables common v))) (kept_own v) ≡ thread_of (shared_of categories default (raw_tables common v)) (raw_own v)
 thread_stands number categories default common v few none =

@@ -7,10 +7,11 @@ use Rattle.std.proofs.lemmas.List.Elements.{All-map}
 use Rattle.prof_grammar.specs.Value.{Value}
 use Rattle.prof_tables.specs.Profiles.{ProfileTables, CountsIn, IsProfile}
 use Rattle.prof_layout.specs.Lists.{first_where, items_of}
-use Rattle.prof_layout.specs.Profile.{is_processed, is_grey, categories_member, category_name, names_with, first_grey, category_names, default_category, is_shared, shared_tables, threads_member, most_threads, checks, processed_broken, unknown_format, broken, thread_tables, profile_of, Stands}
+use Rattle.prof_layout.specs.Profile.{is_processed, is_grey, categories_member, category_name, names_with, first_grey, category_names, default_category, is_shared, shared_tables, threads_member, checks, processed_broken, unknown_format, broken, thread_tables, profile_of, Stands}
 use Rattle.prof_layout.proofs.Kept.{all_pass}
 use Rattle.prof_layout.proofs.Items.{first_where-below}
 use Rattle.prof_layout.proofs.Checking.{threads-few}
+use Rattle.prof_raw.specs.declared.limits.TheConstants.{MOST_THREADS}
 
 below-names : (rows : List Value) (grey : Option ℕ) → first_where is_grey 0 rows ≡ grey → unwrap_or grey (length rows) < length (names_with (map category_name rows) grey)
 below-names rows (Some n) e = let l = first_where-below is_grey 0 rows n e in let m = length-map rows category_name in omega arith
@@ -36,7 +37,7 @@ passed v h = elim (cases_Bool (is_processed v)) [
   | inr f ↦ (let k : Some unknown_format ≡ None = rw f at h in cc)
 ]
 
-few : (v : Value) → processed_broken v ≡ None → length (items_of (threads_member v)) ≤ most_threads
+few : (v : Value) → processed_broken v ≡ None → length (items_of (threads_member v)) ≤ MOST_THREADS
 unfolding processed_broken
 few v h = threads-few v (all_pass (checks v) h).1.1.0
 
@@ -45,7 +46,7 @@ unfolding profile_of
 is_profile v h =
     let threads = items_of (threads_member v) in
     record {
-      few = (let e = length-map threads (thread_tables v) in let l : length threads ≤ most_threads = few v (passed v h) in omega arith);
+      few = (let e = length-map threads (thread_tables v) in let l : length threads ≤ MOST_THREADS = few v (passed v h) in omega arith);
       default = default-below v;
       threads = All-map (CountsIn (length (category_names v)) (default_category v)) (thread_tables v) threads (λ k d lt. counts v _);
     }

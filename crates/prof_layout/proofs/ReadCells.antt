@@ -8,24 +8,24 @@ use Rattle.prof_time.specs.TakenApart.{numeral_of, is_minus}
 use Rattle.prof_time.proofs.Readings.{reading_is}
 use Rattle.prof_time.proofs.Bridges.{signed_size}
 use Rattle.prof_grammar.specs.Value.{Value}
-use Rattle.prof_tables.specs.declared.rule.Rule.{Rule}
-use Rattle.prof_tables.specs.declared.rule.Rule.TheVariants as rule
-use Rattle.prof_tables.specs.declared.raw.TableLength.TheVariants.{Whole, Other}
-use Rattle.prof_tables.specs.Rules.{greatest}
+use Rattle.prof_raw.specs.declared.rule.Rule.{Rule}
+use Rattle.prof_raw.specs.declared.rule.Rule.TheVariants as rule
+use Rattle.prof_raw.specs.declared.raw.TableLength.TheVariants.{Whole, Other}
+use Rattle.prof_raw.specs.declared.limits.TheConstants.{GREATEST}
 use Rattle.prof_layout.specs.Numbers.{scaled_of, whole_of}
 use Rattle.prof_layout.specs.Columns.{clamped, whole_cell, scaled_cell}
 use Rattle.prof_layout.specs.Tables.{whole_length, said_by}
 use Rattle.prof_layout.proofs.Numbers.{scaled_one, whole_is, whole_exact}
 
 -- the text's number is in the range
-pub scaled-within : (text : List ℕ) (d : ℕ) (n : ℤ) → IsScaled text d n → unsigned_abs n ≤ greatest → scaled_cell (scaled_of text d) ≡ Ok (Some n)
+pub scaled-within : (text : List ℕ) (d : ℕ) (n : ℤ) → IsScaled text d n → unsigned_abs n ≤ GREATEST → scaled_cell (scaled_of text d) ≡ Ok (Some n)
 scaled-within text d n h le =
-    let test : nat_le (unsigned_abs n) greatest ≡ true = grind (arith, nat_tests) in
+    let test : nat_le (unsigned_abs n) GREATEST ≡ true = grind (arith, nat_tests) in
     ap scaled_cell (sym (scaled_one text d n h)) ∙ rw test refl
 
-pub scaled-out : (text : List ℕ) (d : ℕ) (n : ℤ) → IsScaled text d n → greatest < unsigned_abs n → scaled_cell (scaled_of text d) ≡ Err rule.NumberRange
+pub scaled-out : (text : List ℕ) (d : ℕ) (n : ℤ) → IsScaled text d n → GREATEST < unsigned_abs n → scaled_cell (scaled_of text d) ≡ Err rule.NumberRange
 scaled-out text d n h lt =
-    let test : nat_le (unsigned_abs n) greatest ≡ false = grind (arith, nat_tests) in
+    let test : nat_le (unsigned_abs n) GREATEST ≡ false = grind (arith, nat_tests) in
     ap scaled_cell (sym (scaled_one text d n h)) ∙ rw test refl
 
 -- the text's number is whole

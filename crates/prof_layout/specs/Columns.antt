@@ -1,12 +1,12 @@
 -- The columns of a table, as its JSON value has them.
 use Rattle.std.specs.Prelude.{◌≡◌, ◌≢◌, ℕ, suc, ◌^◌, ◌-◌, ◌<◌, ℤ, pos, negsuc, unsigned_abs, List, [], ◌∷◌, Bool, if◌then◌else◌, Option, None, Some, IfSome, Result, Ok, Err, nat_le, length, map, take, min}
 use Rattle.prof_grammar.specs.Value.{Value, items}
-use Rattle.prof_tables.specs.declared.rule.Rule.{Rule}
-use Rattle.prof_tables.specs.declared.rule.Rule.TheVariants as rule
-use Rattle.prof_tables.specs.declared.rule.BadCell.{BadCell}
-use Rattle.prof_tables.specs.declared.raw.State.TheVariants.{Absent, NotArray, Array}
-use Rattle.prof_tables.specs.Cells.{Cells}
-use Rattle.prof_tables.specs.Rules.{greatest}
+use Rattle.prof_raw.specs.declared.rule.Rule.{Rule}
+use Rattle.prof_raw.specs.declared.rule.Rule.TheVariants as rule
+use Rattle.prof_raw.specs.declared.rule.BadCell.{BadCell}
+use Rattle.prof_raw.specs.declared.raw.State.TheVariants.{Absent, NotArray, Array}
+use Rattle.prof_raw.specs.Cells.{Cells}
+use Rattle.prof_raw.specs.declared.limits.TheConstants.{GREATEST}
 use Rattle.prof_layout.specs.Numbers.{scaled_of, whole_of}
 use Rattle.prof_layout.specs.declared.reading.Reading.{Reading}
 use Rattle.prof_layout.specs.declared.reading.Reading.TheVariants as reading
@@ -28,7 +28,7 @@ whole_cell broken (Some n) = Ok (Some (clamped n))
 
 -- a time or a weight is in the range, or breaks the rule of the range
 abbrev pub scaled_cell : ℤ → Cell
-scaled_cell n = if nat_le (unsigned_abs n) greatest then Ok (Some n) else Err rule.NumberRange
+scaled_cell n = if nat_le (unsigned_abs n) GREATEST then Ok (Some n) else Err rule.NumberRange
 
 -- Times have six decimals of a millisecond, and counts none. A value of another kind than the column allows is of the
 -- wrong kind.

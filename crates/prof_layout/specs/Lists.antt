@@ -2,9 +2,9 @@
 use Rattle.std.specs.Prelude.{ℕ, suc, List, [], ◌∷◌, Bool, true, false, not, if◌then◌else◌, Option, None, Some, nat_le, length, map}
 use Rattle.std.specs.Option.{option_map}
 use Rattle.prof_grammar.specs.Value.{Value, items}
-use Rattle.prof_tables.specs.declared.rule.Rule.TheVariants as rule
-use Rattle.prof_tables.specs.declared.rule.ListFault.{ListFault}
-use Rattle.prof_tables.specs.Rules.{whole_fault}
+use Rattle.prof_raw.specs.declared.rule.Rule.TheVariants as rule
+use Rattle.prof_raw.specs.declared.rule.ListFault.{ListFault}
+use Rattle.prof_raw.specs.Rules.{whole_fault}
 
 -- null counts as absent
 abbrev pub unless_null : Option Value → Option Value

@@ -1,18 +1,19 @@
 -- What profile a JSON value is, or the first check that it fails.
 use Rattle.std.specs.Prelude.{◌≡◌, ℕ, suc, List, [], ◌∷◌, ◌++◌, Bool, true, false, if◌then◌else◌, Option, None, Some, length, map, codes, is_some, unwrap_or}
 use Rattle.std.specs.Option.{option_or}
-use Rattle.prof_grammar.specs.Value.{Value, field, same_text, flatten}
-use Rattle.prof_grammar.specs.Reading.{IsShallow}
-use Rattle.prof_tables.specs.declared.rule.Rule.TheVariants as rule
-use Rattle.prof_tables.specs.declared.rule.Table.TheVariants as table
-use Rattle.prof_tables.specs.declared.rule.Column.TheVariants as column
-use Rattle.prof_tables.specs.declared.rule.Broken.{Broken}
+use Rattle.prof_grammar.specs.Value.{Value, field, same_text}
+use Rattle.prof_grammar.specs.Accepted.{IsAccepted}
+use Rattle.prof_raw.specs.declared.rule.Rule.TheVariants as rule
+use Rattle.prof_raw.specs.declared.rule.Table.TheVariants as table
+use Rattle.prof_raw.specs.declared.rule.Column.TheVariants as column
+use Rattle.prof_raw.specs.declared.rule.Broken.{Broken}
 use Rattle.prof_tables.specs.Threads.{SharedTables, ThreadTables}
 use Rattle.prof_tables.specs.Profiles.{ProfileTables}
-use Rattle.prof_tables.specs.Checks.{first_of, named, shared_broken, own_broken, thread_broken}
+use Rattle.prof_raw.specs.Checks.{first_of, named, shared_broken, own_broken, thread_broken}
 use Rattle.prof_tables.specs.Rows.{shared_of, thread_of}
 use Rattle.prof_layout.specs.Lists.{first_where, unless_null, items_of, texts_of, member_text, is_object, is_text, needed_list_fault, optional_list_fault}
-use Rattle.prof_layout.specs.Tables.{most_strings, raw_shared, raw_tables, raw_own, raw_thread}
+use Rattle.prof_layout.specs.Tables.{raw_shared, raw_tables, raw_own, raw_thread}
+use Rattle.prof_raw.specs.declared.limits.TheConstants.{MOST_CATEGORIES, MOST_STRINGS, MOST_THREADS}
 
 -- the value of a member, and null where it is absent
 abbrev pub member_value : List ℕ → Value → Value
@@ -42,11 +43,8 @@ category_name v = member_text (field (codes "name") v)
 abbrev pub is_grey : Value → Bool
 is_grey v = same_text (member_text (field (codes "color") v)) (codes "grey")
 
-abbrev pub most_categories : ℕ
-most_categories = 65536
-
 unfoldable pub categories_broken : Value → Option Broken
-categories_broken v = named None table.Meta column.Categories (optional_list_fault is_category most_categories (categories_member v))
+categories_broken v = named None table.Meta column.Categories (optional_list_fault is_category MOST_CATEGORIES (categories_member v))
 
 -- the first grey category is the default; where none is grey, `Other` stands behind the last and is the default
 abbrev pub names_with : List (List ℕ) → Option ℕ → List (List ℕ)
@@ -88,7 +86,7 @@ threads_member v = field (codes "threads") v
 -- these strings are checked where they are there
 abbrev pub common_broken : Option Value → Option Broken
 common_broken None = None
-common_broken member = named None table.StringArray column.List (needed_list_fault is_text most_strings member)
+common_broken member = named None table.StringArray column.List (needed_list_fault is_text MOST_STRINGS member)
 
 -- what breaks of `shared`
 unfoldable pub base_broken : Value → Option Broken
@@ -96,11 +94,8 @@ base_broken v =
     if is_shared v then shared_broken None (length (category_names v)) (raw_shared (shared_member v))
     else common_broken (common_member v)
 
-abbrev pub most_threads : ℕ
-most_threads = 1024
-
 unfoldable pub threads_broken : Value → Option Broken
-threads_broken v = named None table.Threads column.List (needed_list_fault is_object most_threads (threads_member v))
+threads_broken v = named None table.Threads column.List (needed_list_fault is_object MOST_THREADS (threads_member v))
 
 -- what a thread of a profile breaks: its samples and markers, and where the tables aren't shared also its own tables
 unfoldable pub thread_fails : Value → ℕ → Value → Option Broken
@@ -148,15 +143,15 @@ profile_of v = record {
   default = default_category v;
 }
 
--- the text is a processed profile, and this one
+-- the text is accepted, and is this processed profile
 pub record Stands (text : List ℕ) (p : ProfileTables) : Type 0 where
   pub value : Value
-  pub reads : IsShallow text (flatten value)
+  pub reads : IsAccepted text value
   pub whole : broken value ≡ None
   pub is : p ≡ profile_of value
 
--- the text is JSON, and this is the first check that it fails
+-- the text is accepted, and this is the first check that it fails
 pub record Breaks (text : List ℕ) (b : Broken) : Type 0 where
   pub value : Value
-  pub reads : IsShallow text (flatten value)
+  pub reads : IsAccepted text value
   pub first : broken value ≡ Some b

@@ -2,12 +2,13 @@
 use Rattle.std.specs.Prelude.{ℕ, ◌^◌, ℤ, unsigned_abs, List, Bool, true, false, not, ◌&&◌, if◌then◌else◌, Option, None, Some, nat_lt, codes, is_some}
 use Rattle.std.specs.Option.{option_and_then}
 use Rattle.prof_grammar.specs.Value.{Value, field, last_named, same_text}
-use Rattle.prof_tables.specs.declared.rule.ListFault.{ListFault}
-use Rattle.prof_tables.specs.declared.raw.TableLength.{TableLength}
-use Rattle.prof_tables.specs.declared.raw.TableLength.TheVariants.{Unsaid, Whole, Other}
-use Rattle.prof_tables.specs.declared.rows.Unit.{Unit as WeightUnit}
-use Rattle.prof_tables.specs.declared.rows.Unit.TheVariants as unit
-use Rattle.prof_tables.specs.Cells.{Cells, SharedCells, OwnCells, ThreadCells}
+use Rattle.prof_raw.specs.declared.rule.ListFault.{ListFault}
+use Rattle.prof_raw.specs.declared.raw.TableLength.{TableLength}
+use Rattle.prof_raw.specs.declared.raw.TableLength.TheVariants.{Unsaid, Whole, Other}
+use Rattle.prof_raw.specs.declared.raw.Unit.{Unit as WeightUnit}
+use Rattle.prof_raw.specs.declared.raw.Unit.TheVariants as unit
+use Rattle.prof_raw.specs.declared.limits.TheConstants.{MOST_STRINGS}
+use Rattle.prof_raw.specs.Cells.{Cells, SharedCells, OwnCells, ThreadCells}
 use Rattle.prof_layout.specs.declared.reading.Reading.{Reading}
 use Rattle.prof_layout.specs.declared.reading.Reading.TheVariants as reading
 use Rattle.prof_layout.specs.Numbers.{whole_of}
@@ -44,13 +45,9 @@ said_by _ = Unsaid
 abbrev pub said_length : Option Value → TableLength
 said_length table = said_by (member_of table (codes "length"))
 
--- the most strings of a list
-abbrev pub most_strings : ℕ
-most_strings = 4194304
-
 -- what a list of strings breaks
 abbrev pub strings_fault : Option Value → Option ListFault
-strings_fault member = needed_list_fault is_text most_strings member
+strings_fault member = needed_list_fault is_text MOST_STRINGS member
 
 -- the tables that threads may share, of the object that has them, with these strings
 abbrev pub shared_over : List (List ℕ) → Option ListFault → Value → SharedCells
@@ -149,42 +146,5 @@ raw_own v =
     }
 
 -- a thread that has all its tables
-abbrev pub thread_cells : SharedCells → OwnCells → ThreadCells
-thread_cells tables own = record {
-  name = own.name;
-  strings = tables.strings;
-  string_fault = tables.string_fault;
-  has_resources = tables.has_resources;
-  resource_name = tables.resource_name;
-  resource_length = tables.resource_length;
-  func_name = tables.func_name;
-  func_is_js = tables.func_is_js;
-  func_relevant_for_js = tables.func_relevant_for_js;
-  func_resource = tables.func_resource;
-  func_file_name = tables.func_file_name;
-  func_length = tables.func_length;
-  frame_func = tables.frame_func;
-  frame_category = tables.frame_category;
-  frame_length = tables.frame_length;
-  stack_frame = tables.stack_frame;
-  stack_prefix = tables.stack_prefix;
-  stack_length = tables.stack_length;
-  sample_stack = own.sample_stack;
-  sample_time = own.sample_time;
-  deltas = own.deltas;
-  unit = own.unit;
-  sample_weight = own.sample_weight;
-  sample_length = own.sample_length;
-  has_markers = own.has_markers;
-  marker_phase = own.marker_phase;
-  marker_name = own.marker_name;
-  marker_start = own.marker_start;
-  marker_end = own.marker_end;
-  marker_data = own.marker_data;
-  marker_length = own.marker_length;
-  marker_texts = own.marker_texts;
-  marker_ranges = own.marker_ranges;
-}
-
 abbrev pub raw_thread : Option (List (List ℕ)) → Value → ThreadCells
-raw_thread common v = thread_cells (raw_tables common v) (raw_own v)
+raw_thread common v = record { shared = raw_tables common v; own = raw_own v }

@@ -2,24 +2,26 @@
 ghost use Rattle.std.specs.Prelude.{◌≡◌, ℕ, suc, take, None, IfSome, ℤ, ◌<◌, ◌≤◌, ◌^◌, List, length, Bool, true, Option, Some, unsigned_abs, ◌⊎◌, ◌↔◌};
 ghost use Rattle.prof_time.specs.Numeral.{Numeral, IsNumber};
 ghost use Rattle.prof_time.specs.Scaled.{IsScaled, IsExact};
-ghost use Rattle.prof_tables.specs.Cells.{Cells};
-ghost use Rattle.prof_tables.specs.Rules.{index_rule, minus_or_index_rule, prefix_rule, phase_rule};
+ghost use Rattle.prof_raw.specs.Cells.{Cells};
+ghost use Rattle.prof_raw.specs.Rules.{index_rule, minus_or_index_rule, prefix_rule, phase_rule};
 ghost use Rattle.prof_grammar.specs.Value.{Value};
-ghost use Rattle.prof_grammar.specs.Reading.{IsShallow};
+ghost use Rattle.prof_grammar.specs.Reading.{IsReading, finished};
+ghost use Rattle.prof_grammar.specs.declared.TheConstants.{LONGEST};
 ghost use Rattle.prof_grammar.specs.Event.{Event};
 ghost use Rattle.prof_tables.specs.Profiles.{ProfileTables, IsProfile};
-ghost use Rattle.prof_tables.specs.declared.rule.Broken.{Broken};
-ghost use Rattle.prof_tables.specs.declared.rule.Table.{Table};
-ghost use Rattle.prof_tables.specs.declared.rule.Column.{Column};
+ghost use Rattle.prof_raw.specs.declared.rule.Broken.{Broken};
+ghost use Rattle.prof_raw.specs.declared.rule.Table.{Table};
+ghost use Rattle.prof_raw.specs.declared.rule.Column.{Column};
 ghost use Rattle.prof_layout.specs.Profile.{Stands, Breaks};
 ghost use Rattle.prof_tables.specs.Threads.{SharedTables};
-ghost use Rattle.prof_tables.specs.Checks.{first_column, needed_column, optional_column, shared_broken, own_broken, thread_broken};
+ghost use Rattle.prof_raw.specs.Checks.{first_column, needed_column, optional_column, shared_broken, own_broken, thread_broken};
 ghost use Rattle.prof_tables.specs.Rows.{shared_of, thread_of};
 ghost use Rattle.prof_layout.specs.Lists.{list_fault};
-ghost use Rattle.prof_layout.specs.Tables.{most_strings, raw_shared, raw_tables, raw_own, raw_thread};
+ghost use Rattle.prof_layout.specs.Tables.{raw_shared, raw_tables, raw_own, raw_thread};
 ghost use Rattle.prof_layout.specs.Kept.{kept_shared, kept_own, kept_thread};
 ghost use Rattle.prof_layout.specs.Numbers.{scaled_of, whole_of};
 ghost use Rattle.prof_layout.specs.Columns.{Cell, clamped, capped, column_of, IsGathered};
+ghost use Rattle.prof_raw.specs.declared.limits.TheConstants.{MOST_STRINGS};
 
 /// The scaled value of a number's text is the nearest whole number, and no other is.
 pub fn one_scaled()
@@ -51,13 +53,13 @@ pub fn caps_soundly()
     ensures same { (most : ℕ) (c : Cells) → IsGathered c → length c.cells ≤ most → capped most c ≡ c }
 {}
 
-/// A JSON text either is one profile, which keeps what profiles keep, or fails one check first.
+/// A text that is accepted either is one profile, which keeps what profiles keep, or fails one check first.
 pub fn one_profile()
     ensures profile { (text : List ℕ) (p q : ProfileTables) → Stands text p → Stands text q → p ≡ q }
     ensures check { (text : List ℕ) (b c : Broken) → Breaks text b → Breaks text c → b ≡ c }
     ensures apart { (text : List ℕ) (p : ProfileTables) (b : Broken) → Stands text p → Breaks text b → ⊥ }
     ensures profiles { (text : List ℕ) (p : ProfileTables) → Stands text p → IsProfile p }
-    ensures either { (text : List ℕ) (es : List Event) → IsShallow text es → ((p : ProfileTables) × Stands text p) ⊎ ((b : Broken) × Breaks text b) }
+    ensures either { (text : List ℕ) (es : List Event) → IsReading LONGEST text es finished → ((p : ProfileTables) × Stands text p) ⊎ ((b : Broken) × Breaks text b) }
 {}
 
 /// One row more than a limit shows that a list or a column is over it. So where no more is kept, the first check that
@@ -68,6 +70,6 @@ pub fn keeps_enough()
     ensures shared_whole { (thread : Option ℕ) (categories : ℕ) (v : Value) → shared_broken thread categories (raw_shared v) ≡ None → kept_shared (raw_shared v) ≡ raw_shared v }
     ensures own { (thread : Option ℕ) (strings stacks : ℕ) (v : Value) → own_broken thread strings stacks (kept_own v) ≡ own_broken thread strings stacks (raw_own v) }
     ensures own_whole { (thread : Option ℕ) (strings stacks : ℕ) (shared : SharedTables) (v : Value) → own_broken thread strings stacks (raw_own v) ≡ None → thread_of shared (kept_own v) ≡ thread_of shared (raw_own v) }
-    ensures thread { (number categories : ℕ) (common : Option (List (List ℕ))) (v : Value) → IfSome common (λ strings. length strings ≤ most_strings) → thread_broken number categories (kept_thread common v) ≡ thread_broken number categories (raw_thread common v) }
-    ensures thread_whole { (number categories default : ℕ) (common : Option (List (List ℕ))) (v : Value) → IfSome common (λ strings. length strings ≤ most_strings) → thread_broken number categories (raw_thread common v) ≡ None → thread_of (shared_of categories default (kept_shared (raw_tables common v))) (kept_own v) ≡ thread_of (shared_of categories default (raw_tables common v)) (raw_own v) }
+    ensures thread { (number categories : ℕ) (common : Option (List (List ℕ))) (v : Value) → IfSome common (λ strings. length strings ≤ MOST_STRINGS) → thread_broken number categories (kept_thread common v) ≡ thread_broken number categories (raw_thread common v) }
+    ensures thread_whole { (number categories default : ℕ) (common : Option (List (List ℕ))) (v : Value) → IfSome common (λ strings. length strings ≤ MOST_STRINGS) → thread_broken number categories (raw_thread common v) ≡ None → thread_of (shared_of categories default (kept_shared (raw_tables common v))) (kept_own v) ≡ thread_of (shared_of categories default (raw_tables common v)) (raw_own v) }
 {}

@@ -11,7 +11,7 @@ use Rattle.std.proofs.Math.Seq.{take-set-lt, take-length}
 use Rattle.std.proofs.lemmas.List.Quantifiers.{position-Some}
 use Rattle.std.specs.Option.{option_map_or}
 use Rattle.prof_tables.specs.declared.markers.RawMarker.{RawMarker}
-use Rattle.prof_tables.specs.Texts.{first_place}
+use Rattle.prof_raw.specs.Texts.{first_place}
 use Rattle.prof_marker.specs.declared.list.Marker.{Marker}
 use Rattle.prof_marker.specs.declared.drafts.Standing.{Standing}
 use Rattle.prof_marker.specs.declared.drafts.Standing.TheVariants.{Whole, Waiting}

@@ -6,4 +6,3 @@ pub mod Placed
 pub mod Occurring
 pub mod Passing
 pub mod ByRows
-pub mod Known

@@ -6,7 +6,7 @@ use Rattle.std.specs.Str.{bytes_eq}
 use Rattle.std.proofs.lemmas.Slice.Eq.{bytes_eq-Decides}
 use Rattle.std.proofs.lemmas.Bool.{false_from_ne_true, and_parts, and_from, and_left, false≢true, cases_lt, cond-true, lt-ltb}
 use Rattle.std.proofs.lemmas.List.Quantifiers.{position-Some}
-use Rattle.prof_tables.specs.Texts.{first_place}
+use Rattle.prof_raw.specs.Texts.{first_place}
 use Rattle.prof_marker.specs.Markers.{Draft, name_text, is_same_name, is_open_start}
 
 pub same_text : (a b : List ℕ) → bytes_eq a b ≡ true → a ≡ b

@@ -2,7 +2,7 @@
 use Rattle.std.specs.Prelude.{◌≡◌, ℕ, ℤ, pos, List, [], ◌∷◌, Option, Some, None, refl}
 use Rattle.prof_tables.specs.declared.markers.RawMarker.{RawMarker}
 use Rattle.prof_tables.specs.declared.rows.SampleRow.{SampleRow}
-use Rattle.prof_tables.specs.declared.rows.Unit.TheVariants.{Samples}
+use Rattle.prof_raw.specs.declared.raw.Unit.TheVariants.{Samples}
 use Rattle.prof_tables.specs.Threads.{SharedTables, ThreadTables}
 use Rattle.prof_path.specs.declared.transform.Range.{Range}
 use Rattle.prof_path.specs.Terms.{terms_of}

@@ -1,7 +1,7 @@
 -- What is kept of the rows so far: the markers, which of them wait for an end, and where the latest of a name is found
 use Rattle.std.specs.Prelude.{◌≡◌, ℕ, ◌<◌, Bool, true, false, List, [], ◌∷◌, length, take, Option, Some, None, slice_get}
 use Rattle.std.specs.List.{All}
-use Rattle.prof_tables.specs.Texts.{first_place}
+use Rattle.prof_raw.specs.Texts.{first_place}
 use Rattle.prof_marker.specs.declared.list.Marker.{Marker}
 use Rattle.prof_marker.specs.declared.drafts.Standing.{Standing}
 use Rattle.prof_marker.specs.declared.drafts.Standing.TheVariants.{Whole, Waiting}

@@ -1,7 +1,6 @@
 pub mod Markers
 pub mod ByRow
 pub mod Found
-pub mod Lowered
 pub mod Kept
 pub mod Ties
 pub mod Examples

@@ -7,8 +7,8 @@ use Rattle.std.specs.Str.{bytes_eq}
 use Rattle.prof_tables.specs.declared.rows.SampleRow.{SampleRow}
 use Rattle.prof_tables.specs.declared.markers.RawMarker.{RawMarker}
 use Rattle.prof_tables.specs.Threads.{ThreadTables}
-use Rattle.prof_tables.specs.Moments.{number_of}
 use Rattle.prof_marker.specs.declared.list.Marker.{Marker}
+use Rattle.prof_raw.specs.CellValues.{number_of}
 
 -- the text of a name, and whether two names have the same text
 abbrev pub name_text : List (List ℕ) → ℕ → List ℕ

@@ -1,7 +1,7 @@
 //! The marker of a row by itself.
 ghost use Rattle.std.specs.Prelude.{◌≡◌, ℤ};
-ghost use Rattle.prof_tables.specs.Moments.{number_of};
 ghost use Rattle.prof_marker.specs.Markers.{spanning, instant, interval, unended, unstarted};
+ghost use Rattle.prof_raw.specs.CellValues.{number_of};
 
 use crate::list::Marker;
 use crate::times::SampleTimes;

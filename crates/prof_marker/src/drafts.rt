@@ -1,11 +1,11 @@
 //! The markers of the rows so far, and the starts among them that are open.
 ghost use Rattle.std.specs.Prelude.{◌≡◌, ℕ, ◌<◌, List, [], ◌∷◌, ◌++◌, None, Option, Some, replicate, length, slice_set, slice_get, OnOk, IfOk};
-ghost use Rattle.prof_tables.specs.Moments.{number_of};
-ghost use Rattle.prof_tables.specs.Texts.{first_place};
+ghost use Rattle.prof_raw.specs.Texts.{first_place};
 ghost use Rattle.prof_marker.specs.declared.list.Marker.{Marker};
 ghost use Rattle.prof_marker.specs.declared.drafts.Standing.{Standing};
 ghost use Rattle.prof_marker.specs.Markers.{name_text, whole, unended, after_end, after_row};
 ghost use Rattle.prof_marker.specs.Kept.{behind_of, AreFirsts, IsKept, drafts_in};
+ghost use Rattle.prof_raw.specs.CellValues.{number_of};
 
 use crate::alone::{instant, interval, time_of, unended, unstarted};
 use crate::list::{Marker, MarkerList};

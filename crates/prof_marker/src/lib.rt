@@ -14,6 +14,3 @@ pub use laws::pair_by_row;
 pub use list::{Marker, MarkerList};
 pub use pairing::derive;
 pub use searching::{search, spans};
-
-#[cfg(test)]
-mod tests;

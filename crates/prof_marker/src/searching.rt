@@ -4,9 +4,9 @@ ghost use Rattle.prof_marker.specs.Markers.{pair};
 ghost use Rattle.prof_marker.specs.Found.{found, span_of, spans};
 
 use crate::list::{Marker, MarkerList};
-use crate::seeker::Seeker;
+use crate::seeker::finds;
 use prof_io::NoMemory;
-use prof_path::{Range, Span, SpanList, TermList, terms};
+use prof_path::{Range, Seeker, Span, SpanList, TermList, terms};
 use prof_tables::Thread;
 use std::alloc::Global;
 
@@ -28,7 +28,7 @@ pub fn search(
     let mut seeker = Seeker::new(alloc, strings, terms)?;
     let mut places = Vec::new(alloc);
     for (place, marker) in markers.as_slice().iter().enumerate() {
-        if seeker.finds(strings, texts, *marker, ranges)? {
+        if finds(&mut seeker, strings, texts, *marker, ranges)? {
             places.push(place as u32)?;
         }
     }
@@ -61,7 +61,7 @@ pub fn spans(
     let mut seeker = Seeker::new(alloc, strings, &terms)?;
     let mut list = SpanList::new(alloc);
     for marker in markers.as_slice() {
-        if seeker.finds(strings, texts, *marker, &[])? {
+        if finds(&mut seeker, strings, texts, *marker, &[])? {
             list.push(span_of(*marker))?;
         }
     }

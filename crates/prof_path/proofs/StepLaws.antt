@@ -329,7 +329,7 @@ module _ (t : SharedTables) (i : Implementation) (f : ℕ) where
           ∙ sym (append_assoc (cond c [] (y ∷ [])) (without_repeats t i f true x) (last_called (fold (next_called t i f) true x) s))
       go more false = ap (λ l. y ∷ l) (more (c && is_hidden t i y))
 
-  direct-step : (x : List Step) (s : Step) → without_repeats t i f false (x ++ s ∷ []) ≡ cond (is_func f s && called t i f x) (without_repeats t i f false x) (without_repeats t i f false x ++ s ∷ [])
+  pub direct-step : (x : List Step) (s : Step) → without_repeats t i f false (x ++ s ∷ []) ≡ cond (is_func f s && called t i f x) (without_repeats t i f false x) (without_repeats t i f false x ++ s ∷ [])
   direct-step x s = repeats-step false x s ∙ go (is_func f s && called t i f x)
     where
       go : (c : Bool) → without_repeats t i f false x ++ cond c [] (s ∷ []) ≡ cond c (without_repeats t i f false x) (without_repeats t i f false x ++ s ∷ [])

@@ -2,6 +2,8 @@ pub mod Views
 pub mod Shown
 pub mod Rewriting
 pub mod Terms
+pub mod Lowered
+pub mod ByPlace
 pub mod Stepwise
 pub mod Finals
 pub mod Refusals

@@ -23,16 +23,26 @@ length_refusal n = if n == 0 then Some EmptyPath else (if nat_lt 4096 n then Som
 abbrev pub path_refusal : SharedTables → List ℕ → Option PushRefusal
 path_refusal t q = option_or (option_map FuncOut (first_out t q)) (length_refusal (length q))
 
--- why a transform is refused, if it is. Where more than one reason holds, a function goes before the path's length
+-- what of a transform doesn't stand in the tables, or is wrong with its path. Where more than one reason holds, a function
+-- goes before the path's length
+abbrev pub rule_of : SharedTables → Transform → Option PushRefusal
+rule_of t (MergeFunction f) = func_refusal t f
+rule_of t (MergeCallNode i q) = path_refusal t q
+rule_of t (DropFunction f) = func_refusal t f
+rule_of t (FocusSubtree i q inverted) = path_refusal t q
+rule_of t (FocusFunction f) = func_refusal t f
+rule_of t (FocusCategory c) = if nat_lt c t.categories then None else Some (CategoryOut c)
+rule_of t (CollapseResource i r) = if nat_lt r (length t.resources) then None else Some (ResourceOut r)
+rule_of t (CollapseDirectRecursion i f) = func_refusal t f
+rule_of t (CollapseRecursion f) = func_refusal t f
+rule_of t (CollapseFunctionSubtree f) = func_refusal t f
+rule_of t (FilterSamples text) = None
+
+-- what is wrong with a search
+abbrev pub search_refusal : List ℕ → Option PushRefusal
+search_refusal text = if is_long_search text then Some LongSearch else None
+
+-- why a transform is refused, if it is: by its search, or by a rule of the tables
 abbrev pub refusal_of : SharedTables → Transform → Option PushRefusal
-refusal_of t (MergeFunction f) = func_refusal t f
-refusal_of t (MergeCallNode i q) = path_refusal t q
-refusal_of t (DropFunction f) = func_refusal t f
-refusal_of t (FocusSubtree i q inverted) = path_refusal t q
-refusal_of t (FocusFunction f) = func_refusal t f
-refusal_of t (FocusCategory c) = if nat_lt c t.categories then None else Some (CategoryOut c)
-refusal_of t (CollapseResource i r) = if nat_lt r (length t.resources) then None else Some (ResourceOut r)
-refusal_of t (CollapseDirectRecursion i f) = func_refusal t f
-refusal_of t (CollapseRecursion f) = func_refusal t f
-refusal_of t (CollapseFunctionSubtree f) = func_refusal t f
-refusal_of t (FilterSamples text) = if is_long_search text then Some LongSearch else None
+refusal_of t (FilterSamples text) = search_refusal text
+refusal_of t transform = rule_of t transform

@@ -1,7 +1,7 @@
 //! Whether a transform fits a thread.
 ghost use Rattle.std.specs.Prelude.{◌≡◌};
 ghost use Rattle.std.specs.Result.{result_err};
-ghost use Rattle.prof_path.specs.Refusals.{func_refusal, path_refusal, refusal_of};
+ghost use Rattle.prof_path.specs.Refusals.{func_refusal, path_refusal, rule_of, refusal_of};
 
 use crate::searching::is_long_search;
 use crate::transform::Transform;
@@ -58,11 +58,11 @@ fn check_path(funcs: &[u32], thread: &Thread) -> Result<(), PushRefusal>
     Ok(())
 }
 
-/// Whether a transform fits a thread: each function, resource and category that it names is there, its path has 1 to
-/// 4,096 functions, and its search at most 256 bytes and 8 terms. A function that is out goes before the path's length,
-/// and the first such function is named.
-pub fn check(t: &Transform, thread: &Thread) -> Result<(), PushRefusal>
-    ensures { result_err result ≡ refusal_of thread.now.shared t.now }
+/// Whether what a transform names is there: each function, resource and category is the thread's, and its path has 1 to
+/// 4,096 functions. A function that is out goes before the path's length, and the first such function is named. Searches
+/// are not looked at.
+pub fn check_rules(t: &Transform, thread: &Thread) -> Result<(), PushRefusal>
+    ensures { result_err result ≡ rule_of thread.now.shared t.now }
 {
     match t {
         Transform::MergeFunction { func }
@@ -84,9 +84,19 @@ pub fn check(t: &Transform, thread: &Thread) -> Result<(), PushRefusal>
                 resource: *resource,
             })
         }
+        _ => Ok(()),
+    }
+}
+
+/// Whether a transform fits a thread: what it names is there, by `check_rules`, and its search has at most 256 bytes and 8
+/// terms.
+pub fn check(t: &Transform, thread: &Thread) -> Result<(), PushRefusal>
+    ensures { result_err result ≡ refusal_of thread.now.shared t.now }
+{
+    match t {
         Transform::FilterSamples { search } if is_long_search(search.as_str()) => Err(
             PushRefusal::LongSearch,
         ),
-        _ => Ok(()),
+        _ => check_rules(t, thread),
     }
 }

@@ -1,4 +1,5 @@
 //! The laws of rewriting, step by step. These functions do nothing: their contracts are the laws.
+ghost use Rattle.prof_path.specs.ByPlace.{DirectRecursionByPlace};
 ghost use Rattle.prof_path.specs.Stepwise.{NamesStep, AlongStep, CalledStep, InsideStep, EmptyStays, OneMoreTransform, MergeFunctionStep, MergeCallNodeStep, FocusSubtreeStep, InvertedFocusStep, DropFunctionStep, FocusFunctionStep, FocusCategoryStep, CollapseResourceStep, CollapseDirectRecursionStep, CollapseRecursionStep, CollapseFunctionSubtreeStep, FilterSamplesStep};
 
 /// What the states of a path become with one more step.
@@ -24,6 +25,11 @@ pub fn function_step()
 pub fn collapse_step()
     ensures resource { CollapseResourceStep }
     ensures direct_recursion { CollapseDirectRecursionStep }
+{}
+
+/// What the collapse of direct recursion leaves, place by place.
+pub fn direct_recursion_by_place()
+    ensures { DirectRecursionByPlace }
 {}
 
 /// What the kinds that look for a call node make of a path with one more step.

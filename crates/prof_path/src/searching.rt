@@ -81,7 +81,7 @@ fn count_of_terms(text: &str) -> usize
 }
 
 /// Whether a search is over 256 bytes or 8 terms.
-pub(crate) fn is_long_search(text: &str) -> bool
+pub fn is_long_search(text: &str) -> bool
     ensures { result ≡ is_long_search text.now }
 {
     text.len() > MOST_BYTES || count_of_terms(text) > MOST_TERMS

@@ -11,7 +11,7 @@ use Rattle.indexmap.specs.IndexMap.{insert_entry}
 use Rattle.prof_grammar.specs.Value.{Value, Members, snoc, same_text}
 use Rattle.prof_layout.specs.Markers.{string_text, data_texts}
 use Rattle.prof_layout.proofs.MarkerTexts as texts
-use Rattle.prof_read.specs.Gathered.{string_of}
+use Rattle.prof_column.specs.Kept.{string_of}
 use Rattle.prof_read.specs.Fields.{field_text, AreFields, field_texts}
 use Rattle.prof_read.specs.declared.markers.MarkerFields.{MarkerFields}
 

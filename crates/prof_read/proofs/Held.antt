@@ -1,22 +1,22 @@
 -- Raw tables, of the columns of each.
 use Rattle.std.proofs.Common.{◌≡◌, ℕ, suc, Option, None, Some, List, [], Bool, false, take, refl}
+use Rattle.prof_raw.specs.declared.limits.TheConstants.{MOST_SAMPLES, MOST_STRINGS}
 use Rattle.std.specs.Prelude.{codes, unwrap_or}
 use Rattle.prof_grammar.specs.Value.{Value}
-use Rattle.prof_tables.specs.declared.rule.ListFault.{ListFault}
-use Rattle.prof_tables.specs.Cells.{Cells, SharedCells, OwnCells}
-use Rattle.prof_layout.specs.Tables.{most_strings, member_of, time_cells, has_deltas, weight_reading}
+use Rattle.prof_raw.specs.declared.rule.ListFault.{ListFault}
+use Rattle.prof_raw.specs.Cells.{Cells, SharedCells, OwnCells}
+use Rattle.prof_layout.specs.Tables.{member_of, time_cells, has_deltas, weight_reading}
 use Rattle.prof_layout.proofs.KeptFrom.{tables_from, own_from}
 use Rattle.prof_read.specs.declared.shared.ResourceTable.{ResourceTable}
 use Rattle.prof_read.specs.declared.shared.FuncTable.{FuncTable}
 use Rattle.prof_read.specs.declared.shared.FrameTable.{FrameTable}
 use Rattle.prof_read.specs.declared.shared.StackTable.{StackTable}
-use Rattle.prof_tables.specs.Checks.{most_samples}
 use Rattle.prof_layout.specs.Columns.{capped, column_of, read_cell}
 use Rattle.prof_layout.specs.Lists.{member_text}
 use Rattle.prof_read.specs.declared.samples.SampleTable.{SampleTable}
 use Rattle.prof_read.specs.declared.markers.MarkerTable.{MarkerTable}
 use Rattle.prof_read.specs.declared.raw.HeldStrings.{HeldStrings}
-use Rattle.prof_read.specs.Gathered.{string_of}
+use Rattle.prof_column.specs.Kept.{string_of}
 use Rattle.prof_read.specs.Raw.{HoldsStrings, AreResources, AreFuncs, AreFrames, AreStacks, AreSamples, AreMarkers}
 
 -- the tables that threads may share
@@ -43,7 +43,7 @@ tables_of h r f j s = record {
 
 pub tables_are : (texts : List (List ℕ)) (fault : Option ListFault) (resources funcs frames stacks : Option Value) (h : HeldStrings) (r : Bool × ResourceTable) (f : FuncTable) (j : FrameTable) (s : StackTable) →
     HoldsStrings texts fault h → AreResources resources r → AreFuncs funcs f → AreFrames frames j → AreStacks stacks s →
-    tables_of h r f j s ≡ tables_from (take (suc most_strings) texts) fault resources funcs frames stacks
+    tables_of h r f j s ≡ tables_from (take (suc MOST_STRINGS) texts) fault resources funcs frames stacks
 tables_are texts fault resources funcs frames stacks h r f j s held are_resources are_funcs are_frames are_stacks =
     rw (
       held.strings,
@@ -87,8 +87,8 @@ own_of name s time weight m = record {
 }
 
 pub own_are : (named samples markers : Option Value) (name : List ℕ) (s : SampleTable) (time : Cells × Bool) (weight : Cells) (m : Bool × MarkerTable) →
-    name ≡ member_text named → AreSamples samples s → (time.0 ≡ capped most_samples (time_cells samples)) × (time.1 ≡ has_deltas samples) →
-    weight ≡ capped most_samples (column_of (read_cell (weight_reading s.unit)) false (member_of samples (codes "weight"))) → AreMarkers markers m →
+    name ≡ member_text named → AreSamples samples s → (time.0 ≡ capped MOST_SAMPLES (time_cells samples)) × (time.1 ≡ has_deltas samples) →
+    weight ≡ capped MOST_SAMPLES (column_of (read_cell (weight_reading s.unit)) false (member_of samples (codes "weight"))) → AreMarkers markers m →
     own_of name s time weight m ≡ own_from named samples markers
 own_are named samples markers name s time weight m is are_samples times weights are_markers =
     rw (

@@ -1,4 +1,3 @@
-pub mod Adding
 pub mod Begun
 pub mod Built
 pub mod FieldTexts
@@ -12,10 +11,7 @@ pub mod SampleMembers
 pub mod Slots
 pub mod Standing
 pub mod TableSlots
-pub mod TextLists
 pub mod Threading
-pub mod ValuesRead
-pub mod WholeCells
 pub mod WholeLists
 pub mod SharedSlots
 pub mod Telling

@@ -3,7 +3,7 @@ use Rattle.std.proofs.Common.{◌≡◌, ℕ, zero, suc, ◌<◌, ◌+◌, Optio
 use Rattle.std.specs.Prelude.{not, if◌then◌else◌}
 use Rattle.std.proofs.lemmas.List.{map-append, take_all}
 use Rattle.prof_grammar.specs.Value.{Value, Members}
-use Rattle.prof_tables.specs.declared.rule.Broken.{Broken}
+use Rattle.prof_raw.specs.declared.rule.Broken.{Broken}
 use Rattle.prof_tables.specs.Threads.{ThreadTables}
 use Rattle.prof_layout.specs.Lists.{is_object, first_where}
 use Rattle.prof_layout.specs.Profile.{first_thread, thread_fails, thread_tables}

@@ -1,19 +1,20 @@
 -- The profile of a value, and the first check that it fails, by what was gathered of its members.
 use Rattle.std.proofs.Common.{◌≡◌, ℕ, suc, ◌≤◌, Option, None, Some, List, Bool, true, false, Err, length, map, take, refl, sym, subst, ◌∙◌, ap, arith, inl, inr}
+use Rattle.prof_raw.specs.declared.limits.TheConstants.{MOST_THREADS}
 use Rattle.std.specs.Prelude.{codes, is_some, unwrap_or, nat_le}
 use Rattle.std.specs.Option.{option_map}
 use Rattle.std.proofs.lemmas.Bool.{cases_Bool}
 use Rattle.std.proofs.lemmas.List.{take_all}
 use Rattle.prof_grammar.specs.Value.{Value, Members, field, last_named, items}
-use Rattle.prof_tables.specs.declared.rule.Table.TheVariants as table
-use Rattle.prof_tables.specs.declared.rule.Column.TheVariants as column
-use Rattle.prof_tables.specs.declared.rule.Broken.{Broken}
-use Rattle.prof_tables.specs.declared.rule.ListFault.{ListFault}
-use Rattle.prof_tables.specs.Checks.{named}
+use Rattle.prof_raw.specs.declared.rule.Table.TheVariants as table
+use Rattle.prof_raw.specs.declared.rule.Column.TheVariants as column
+use Rattle.prof_raw.specs.declared.rule.Broken.{Broken}
+use Rattle.prof_raw.specs.declared.rule.ListFault.{ListFault}
+use Rattle.prof_raw.specs.Checks.{named}
 use Rattle.prof_tables.specs.Threads.{ThreadTables}
 use Rattle.prof_tables.specs.Profiles.{ProfileTables}
 use Rattle.prof_layout.specs.Lists.{is_object, items_of, first_unfit, wrong_kind, list_fault, needed_list_fault}
-use Rattle.prof_layout.specs.Profile.{is_processed, categories_member, category_names, default_category, threads_member, most_threads, threads_broken, thread_tables, unknown_format, broken, profile_of}
+use Rattle.prof_layout.specs.Profile.{is_processed, categories_member, category_names, default_category, threads_member, threads_broken, thread_tables, unknown_format, broken, profile_of}
 use Rattle.prof_layout.proofs.Checking.{broken-format, not-processed, threads-few}
 use Rattle.prof_gather.specs.declared.objects.Found.{Found}
 use Rattle.prof_gather.specs.declared.objects.Found.TheVariants as found
@@ -89,16 +90,16 @@ needed_fits fits most (Some (Value.object ms)) h = cc
 
 pub threads_fit : (v : Value) → threads_broken v ≡ None → first_unfit is_object (items_of (threads_member v)) ≡ None
 unfolding threads_broken
-threads_fit v h = needed_fits is_object most_threads (threads_member v) (fault_none None table.Threads column.List (needed_list_fault is_object most_threads (threads_member v)) h)
+threads_fit v h = needed_fits is_object MOST_THREADS (threads_member v) (fault_none None table.Threads column.List (needed_list_fault is_object MOST_THREADS (threads_member v)) h)
 
-pub threads_checked : (v : Value) (fault : Option ListFault) → fault ≡ needed_list_fault is_object most_threads (threads_member v) → threads_broken v ≡ named None table.Threads column.List fault
+pub threads_checked : (v : Value) (fault : Option ListFault) → fault ≡ needed_list_fault is_object MOST_THREADS (threads_member v) → threads_broken v ≡ named None table.Threads column.List fault
 unfolding threads_broken
 threads_checked v fault e = ap (named None table.Threads column.List) (sym e)
 
-pub threads_kept : (v : Value) (ts : List ThreadParts) → threads_broken v ≡ None → AreThreads (take (suc most_threads) (items_of (threads_member v))) ts → AreThreads (items_of (threads_member v)) ts
+pub threads_kept : (v : Value) (ts : List ThreadParts) → threads_broken v ≡ None → AreThreads (take (suc MOST_THREADS) (items_of (threads_member v))) ts → AreThreads (items_of (threads_member v)) ts
 threads_kept v ts h are =
     let few = threads-few v h in
-    subst (λ (vs : List Value). AreThreads vs ts) (take_all (suc most_threads) (items_of (threads_member v)) (omega arith)) are
+    subst (λ (vs : List Value). AreThreads vs ts) (take_all (suc MOST_THREADS) (items_of (threads_member v)) (omega arith)) are
 
 -- ---- the profile
 

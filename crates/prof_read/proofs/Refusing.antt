@@ -1,11 +1,11 @@
 -- Refusals that are passed on, with the check that they name.
 use Rattle.std.proofs.Common.{◌≡◌, ℕ, Option, None, Some, Result, Ok, Err, refl}
-use Rattle.prof_tables.specs.declared.rule.Table.{Table}
-use Rattle.prof_tables.specs.declared.rule.Column.{Column}
-use Rattle.prof_tables.specs.declared.rule.ListFault.{ListFault}
-use Rattle.prof_tables.specs.Checks.{named}
+use Rattle.prof_raw.specs.declared.rule.Table.{Table}
+use Rattle.prof_raw.specs.declared.rule.Column.{Column}
+use Rattle.prof_raw.specs.declared.rule.ListFault.{ListFault}
+use Rattle.prof_raw.specs.Checks.{named}
 use Rattle.std.specs.Result.{IsErrAnd}
-use Rattle.prof_tables.specs.declared.rule.Broken.{Broken}
+use Rattle.prof_raw.specs.declared.rule.Broken.{Broken}
 use Rattle.prof_tables.specs.declared.refusal.BuildRefusal.{BuildRefusal}
 use Rattle.prof_tables.specs.declared.refusal.BuildRefusal.TheVariants as build
 use Rattle.prof_tables.specs.Builds.{Builds}

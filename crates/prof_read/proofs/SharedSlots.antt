@@ -1,13 +1,14 @@
 -- One more member of the tables that threads may share.
 use Rattle.std.proofs.Common.{◌≡◌, ℕ, List, Option, Some, true, false, refl, sym, subst, inl, inr}
+use Rattle.prof_raw.specs.declared.limits.TheConstants.{MOST_FUNCS, MOST_ROWS}
 use Rattle.std.specs.Prelude.{codes, Bool}
 use Rattle.prof_grammar.specs.Value.{Value, Members, snoc, last_named, same_text}
-use Rattle.prof_tables.specs.Cells.{Cells}
-use Rattle.prof_tables.specs.Checks.{most_funcs, most_rows}
+use Rattle.prof_raw.specs.Cells.{Cells}
 use Rattle.prof_layout.specs.declared.reading.Reading.{Reading}
 use Rattle.prof_layout.specs.declared.reading.Reading.TheVariants as reading
 use Rattle.prof_gather.specs.Taking.{IsFoundIn}
-use Rattle.prof_read.specs.Gathered.{kept_column, IsTextList, AreResourceColumns, AreFuncColumns, AreFrameColumns, AreStackColumns, AreShared}
+use Rattle.prof_column.specs.Kept.{kept_column, IsTextList}
+use Rattle.prof_read.specs.Gathered.{AreResourceColumns, AreFuncColumns, AreFrameColumns, AreStackColumns, AreShared}
 use Rattle.prof_read.specs.declared.shared.ResourceTable.{ResourceTable}
 use Rattle.prof_read.specs.declared.shared.FuncTable.{FuncTable}
 use Rattle.prof_read.specs.declared.shared.FrameTable.{FrameTable}
@@ -20,50 +21,50 @@ abbrev pub HoldsCells : ℕ → Reading → Bool → Option Value → Cells → 
 HoldsCells most r needed o c = c ≡ kept_column most r needed o
 
 pub resources_more : (n : List ℕ) (v : Value) (old new : ResourceTable) →
-    Goes (HoldsCells most_funcs reading.Index true) (codes "name") n v old.name new.name →
+    Goes (HoldsCells MOST_FUNCS reading.Index true) (codes "name") n v old.name new.name →
     Goes HoldsLength (codes "length") n v old.length new.length →
     (ms : Members) → AreResourceColumns ms old → AreResourceColumns (snoc ms n v) new
 resources_more n v old new g_name g_length ms h = record {
-  name = slot_after (HoldsCells most_funcs reading.Index true) (codes "name") n v old.name new.name g_name ms h.name;
+  name = slot_after (HoldsCells MOST_FUNCS reading.Index true) (codes "name") n v old.name new.name g_name ms h.name;
   length = slot_after HoldsLength (codes "length") n v old.length new.length g_length ms h.length;
 }
 
 pub funcs_more : (n : List ℕ) (v : Value) (old new : FuncTable) →
-    Goes (HoldsCells most_funcs reading.Index true) (codes "name") n v old.name new.name →
-    Goes (HoldsCells most_funcs reading.Truth false) (codes "isJS") n v old.is_js new.is_js →
-    Goes (HoldsCells most_funcs reading.Truth false) (codes "relevantForJS") n v old.relevant_for_js new.relevant_for_js →
-    Goes (HoldsCells most_funcs reading.Index false) (codes "resource") n v old.resource new.resource →
-    Goes (HoldsCells most_funcs reading.MaybeIndex false) (codes "fileName") n v old.file_name new.file_name →
+    Goes (HoldsCells MOST_FUNCS reading.Index true) (codes "name") n v old.name new.name →
+    Goes (HoldsCells MOST_FUNCS reading.Truth false) (codes "isJS") n v old.is_js new.is_js →
+    Goes (HoldsCells MOST_FUNCS reading.Truth false) (codes "relevantForJS") n v old.relevant_for_js new.relevant_for_js →
+    Goes (HoldsCells MOST_FUNCS reading.Index false) (codes "resource") n v old.resource new.resource →
+    Goes (HoldsCells MOST_FUNCS reading.MaybeIndex false) (codes "fileName") n v old.file_name new.file_name →
     Goes HoldsLength (codes "length") n v old.length new.length →
     (ms : Members) → AreFuncColumns ms old → AreFuncColumns (snoc ms n v) new
 funcs_more n v old new g_name g_is_js g_relevant g_resource g_file g_length ms h = record {
-  name = slot_after (HoldsCells most_funcs reading.Index true) (codes "name") n v old.name new.name g_name ms h.name;
-  is_js = slot_after (HoldsCells most_funcs reading.Truth false) (codes "isJS") n v old.is_js new.is_js g_is_js ms h.is_js;
-  relevant = slot_after (HoldsCells most_funcs reading.Truth false) (codes "relevantForJS") n v old.relevant_for_js new.relevant_for_js g_relevant ms h.relevant;
-  resource = slot_after (HoldsCells most_funcs reading.Index false) (codes "resource") n v old.resource new.resource g_resource ms h.resource;
-  file = slot_after (HoldsCells most_funcs reading.MaybeIndex false) (codes "fileName") n v old.file_name new.file_name g_file ms h.file;
+  name = slot_after (HoldsCells MOST_FUNCS reading.Index true) (codes "name") n v old.name new.name g_name ms h.name;
+  is_js = slot_after (HoldsCells MOST_FUNCS reading.Truth false) (codes "isJS") n v old.is_js new.is_js g_is_js ms h.is_js;
+  relevant = slot_after (HoldsCells MOST_FUNCS reading.Truth false) (codes "relevantForJS") n v old.relevant_for_js new.relevant_for_js g_relevant ms h.relevant;
+  resource = slot_after (HoldsCells MOST_FUNCS reading.Index false) (codes "resource") n v old.resource new.resource g_resource ms h.resource;
+  file = slot_after (HoldsCells MOST_FUNCS reading.MaybeIndex false) (codes "fileName") n v old.file_name new.file_name g_file ms h.file;
   length = slot_after HoldsLength (codes "length") n v old.length new.length g_length ms h.length;
 }
 
 pub frames_more : (n : List ℕ) (v : Value) (old new : FrameTable) →
-    Goes (HoldsCells most_rows reading.Index true) (codes "func") n v old.func new.func →
-    Goes (HoldsCells most_rows reading.MaybeIndex false) (codes "category") n v old.category new.category →
+    Goes (HoldsCells MOST_ROWS reading.Index true) (codes "func") n v old.func new.func →
+    Goes (HoldsCells MOST_ROWS reading.MaybeIndex false) (codes "category") n v old.category new.category →
     Goes HoldsLength (codes "length") n v old.length new.length →
     (ms : Members) → AreFrameColumns ms old → AreFrameColumns (snoc ms n v) new
 frames_more n v old new g_func g_category g_length ms h = record {
-  func = slot_after (HoldsCells most_rows reading.Index true) (codes "func") n v old.func new.func g_func ms h.func;
-  category = slot_after (HoldsCells most_rows reading.MaybeIndex false) (codes "category") n v old.category new.category g_category ms h.category;
+  func = slot_after (HoldsCells MOST_ROWS reading.Index true) (codes "func") n v old.func new.func g_func ms h.func;
+  category = slot_after (HoldsCells MOST_ROWS reading.MaybeIndex false) (codes "category") n v old.category new.category g_category ms h.category;
   length = slot_after HoldsLength (codes "length") n v old.length new.length g_length ms h.length;
 }
 
 pub stacks_more : (n : List ℕ) (v : Value) (old new : StackTable) →
-    Goes (HoldsCells most_rows reading.Index true) (codes "frame") n v old.frame new.frame →
-    Goes (HoldsCells most_rows reading.MaybeIndex true) (codes "prefix") n v old.prefix new.prefix →
+    Goes (HoldsCells MOST_ROWS reading.Index true) (codes "frame") n v old.frame new.frame →
+    Goes (HoldsCells MOST_ROWS reading.MaybeIndex true) (codes "prefix") n v old.prefix new.prefix →
     Goes HoldsLength (codes "length") n v old.length new.length →
     (ms : Members) → AreStackColumns ms old → AreStackColumns (snoc ms n v) new
 stacks_more n v old new g_frame g_prefix g_length ms h = record {
-  frame = slot_after (HoldsCells most_rows reading.Index true) (codes "frame") n v old.frame new.frame g_frame ms h.frame;
-  prefix = slot_after (HoldsCells most_rows reading.MaybeIndex true) (codes "prefix") n v old.prefix new.prefix g_prefix ms h.prefix;
+  frame = slot_after (HoldsCells MOST_ROWS reading.Index true) (codes "frame") n v old.frame new.frame g_frame ms h.frame;
+  prefix = slot_after (HoldsCells MOST_ROWS reading.MaybeIndex true) (codes "prefix") n v old.prefix new.prefix g_prefix ms h.prefix;
   length = slot_after HoldsLength (codes "length") n v old.length new.length g_length ms h.length;
 }
 

@@ -1,21 +1,22 @@
 -- What threads stand on, by what was gathered of `shared`.
 use Rattle.std.proofs.Common.{◌≡◌, ℕ, suc, ◌≤◌, Option, Some, None, IfSome, List, Bool, true, false, length, map, take, refl, sym, ◌∙◌, ap, arith}
+use Rattle.prof_raw.specs.declared.limits.TheConstants.{MOST_STRINGS}
 use Rattle.std.specs.Prelude.{codes, is_some, unwrap_or}
 use Rattle.std.specs.Option.{option_map}
 use Rattle.std.proofs.lemmas.List.{take_all, length-map}
 use Rattle.prof_grammar.specs.Value.{Value, Members, field, last_named}
-use Rattle.prof_tables.specs.declared.raw.State.{State}
-use Rattle.prof_tables.specs.declared.raw.State.TheVariants.{Absent, NotArray, Array}
-use Rattle.prof_tables.specs.declared.rule.Table.TheVariants as table
-use Rattle.prof_tables.specs.declared.rule.Column.TheVariants as column
-use Rattle.prof_tables.specs.declared.rule.Broken.{Broken}
-use Rattle.prof_tables.specs.Cells.{SharedCells}
+use Rattle.prof_raw.specs.declared.raw.State.{State}
+use Rattle.prof_raw.specs.declared.raw.State.TheVariants.{Absent, NotArray, Array}
+use Rattle.prof_raw.specs.declared.rule.Table.TheVariants as table
+use Rattle.prof_raw.specs.declared.rule.Column.TheVariants as column
+use Rattle.prof_raw.specs.declared.rule.Broken.{Broken}
+use Rattle.prof_raw.specs.Cells.{SharedCells}
 use Rattle.prof_tables.specs.Threads.{SharedTables}
-use Rattle.prof_tables.specs.Checks.{named, shared_broken}
+use Rattle.prof_raw.specs.Checks.{named, shared_broken}
 use Rattle.prof_tables.specs.Rows.{shared_of}
 use Rattle.prof_layout.specs.Kept.{kept_shared}
 use Rattle.prof_layout.specs.Lists.{unless_null, is_object, texts_of}
-use Rattle.prof_layout.specs.Tables.{most_strings, strings_fault, raw_shared}
+use Rattle.prof_layout.specs.Tables.{strings_fault, raw_shared}
 use Rattle.prof_layout.specs.Profile.{is_shared, shared_tables, shared_member, common_member, common_of, common_broken, category_names, default_category, base_broken}
 use Rattle.prof_layout.proofs.Checking.{common-few}
 use Rattle.prof_layout.proofs.KeptValue.{shared_breaks, shared_stands}
@@ -23,10 +24,10 @@ use Rattle.prof_gather.specs.declared.objects.Found.{Found}
 use Rattle.prof_gather.specs.declared.objects.Found.TheVariants as found
 use Rattle.prof_gather.specs.Taking.{IsFoundIn}
 use Rattle.prof_read.specs.declared.raw.HeldStrings.{HeldStrings}
-use Rattle.prof_read.specs.Gathered.{state_by}
+use Rattle.prof_column.specs.Kept.{state_by}
 use Rattle.std.specs.declared.rc.Rc.{Rc}
 use Rattle.std.specs.declared.alloc.Global.{Global}
-use Rattle.prof_tables.specs.declared.strings.Strings.{Strings}
+use Rattle.prof_raw.specs.declared.strings.Strings.{Strings}
 use Rattle.prof_read.specs.Raw.{HoldsStrings, counting_texts, counting_fault}
 use Rattle.prof_read.specs.Bases.{AreCounts}
 
@@ -81,8 +82,8 @@ there_by test s None e a t = let k : true ≡ false = sym a ∙ ap test (sym e) 
 there_by test s (Some v) e a t = (v, refl)
 
 -- strings of which no more than the most are kept are all kept
-pub few_kept : (texts : List (List ℕ)) → length texts ≤ most_strings → take (suc most_strings) texts ≡ texts
-few_kept texts few = take_all (suc most_strings) texts (omega arith)
+pub few_kept : (texts : List (List ℕ)) → length texts ≤ MOST_STRINGS → take (suc MOST_STRINGS) texts ≡ texts
+few_kept texts few = take_all (suc MOST_STRINGS) texts (omega arith)
 
 -- a list that is there and breaks nothing
 pub common_held : (member : Option Value) (v : Value) (fault : Option _) (held : HeldStrings) → member ≡ Some v → fault ≡ strings_fault member → named None table.StringArray column.List fault ≡ None →
@@ -128,7 +129,7 @@ tables_by v ms categories default raw counts e is none =
 
 -- a thread without strings of its own counts by those that all threads share
 pub common_counts : (common : Option (Rc Strings Global)) (strings copy : Rc Strings Global) (texts : Option (List (List ℕ))) (member : Option Value) → common ≡ Some strings → copy.value ≡ strings.value →
-    option_map (λ s. s.value) common ≡ texts → IfSome texts (λ strings. length strings ≤ most_strings) → member ≡ None →
+    option_map (λ s. s.value) common ≡ texts → IfSome texts (λ strings. length strings ≤ MOST_STRINGS) → member ≡ None →
     HoldsStrings (counting_texts texts member) (counting_fault texts member) (record { strings = copy; fault = None })
 common_counts None strings copy texts member e same t few gone = cc
 common_counts (Some s) strings copy None member e same t few gone = cc

@@ -1,18 +1,19 @@
 -- One more member of a category, of markers, of a thread, of `meta` and of the whole text.
 use Rattle.std.proofs.Common.{◌≡◌, ℕ, List, Option, true, false, refl, inr}
+use Rattle.prof_raw.specs.declared.limits.TheConstants.{MOST_ROWS}
 use Rattle.std.specs.Prelude.{codes, is_some, string_bytes, String, Bool}
 use Rattle.std.specs.Option.{option_map}
 use Rattle.std.specs.declared.alloc.Global.{Global}
 use Rattle.prof_grammar.specs.Value.{Value, Members, snoc, same_text}
-use Rattle.prof_tables.specs.Cells.{Cells}
-use Rattle.prof_tables.specs.Checks.{most_rows}
-use Rattle.prof_tables.specs.declared.raw.TableLength.{TableLength}
+use Rattle.prof_raw.specs.Cells.{Cells}
+use Rattle.prof_raw.specs.declared.raw.TableLength.{TableLength}
 use Rattle.prof_layout.specs.declared.reading.Reading.{Reading}
 use Rattle.prof_layout.specs.declared.reading.Reading.TheVariants as reading
 use Rattle.prof_layout.specs.Lists.{member_text}
 use Rattle.prof_layout.specs.Tables.{said_by}
 use Rattle.prof_gather.specs.Taking.{IsFoundIn}
-use Rattle.prof_read.specs.Gathered.{string_of, kept_column, IsTextList, IsCategoryList, IsMarkerData, IsThreadList, AreCategoryMembers, AreResourceColumns, AreFuncColumns, AreFrameColumns, AreStackColumns, AreSampleColumns, AreMarkerColumns, AreShared, AreThread, AreMeta, AreParts}
+use Rattle.prof_column.specs.Kept.{string_of, kept_column, IsTextList}
+use Rattle.prof_read.specs.Gathered.{IsCategoryList, IsMarkerData, IsThreadList, AreCategoryMembers, AreResourceColumns, AreFuncColumns, AreFrameColumns, AreStackColumns, AreSampleColumns, AreMarkerColumns, AreShared, AreThread, AreMeta, AreParts}
 use Rattle.prof_read.specs.Names.{member_name}
 use Rattle.prof_read.specs.declared.categories.Category.{Category}
 use Rattle.prof_read.specs.declared.markers.MarkerTable.{MarkerTable}
@@ -31,7 +32,7 @@ abbrev pub HoldsGrey : Option Value → Bool → Type 0
 HoldsGrey o b = b ≡ same_text (member_text o) (codes "grey")
 
 abbrev pub HoldsColumn : Reading → Option Value → Cells → Type 0
-HoldsColumn r o c = c ≡ kept_column most_rows r true o
+HoldsColumn r o c = c ≡ kept_column MOST_ROWS r true o
 
 abbrev pub HoldsLength : Option Value → TableLength → Type 0
 HoldsLength o l = l ≡ said_by o

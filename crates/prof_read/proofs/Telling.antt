@@ -1,8 +1,8 @@
 -- What is told of a whole text: its profile, the first check that it fails, or the fault by which its reading ends.
 use Rattle.std.proofs.Common.{◌≡◌, ℕ, List, Option, None, Some, IfSome, Result, Ok, Err, sym, subst, ◌∙◌}
 use Rattle.std.specs.Result.{IfErr, IsErrAnd}
-use Rattle.prof_grammar.specs.Value.{Value, flatten}
-use Rattle.prof_grammar.specs.Reading.{IsShallow}
+use Rattle.prof_grammar.specs.Value.{Value}
+use Rattle.prof_grammar.specs.Accepted.{IsAccepted}
 use Rattle.prof_tables.specs.Profiles.{ProfileTables}
 use Rattle.prof_layout.specs.Profile.{broken, profile_of, Stands}
 use Rattle.prof_gather.specs.declared.refusal.GatherRefusal.{GatherRefusal}
@@ -29,7 +29,7 @@ told_gathering gather.NoMemory (Err e) text before now caused h = rw h tt
 
 -- the value of the text, and what was gathered of it
 abbrev pub IsGatheredFrom : Option (List ℕ) → Found ProfileParts → Type 0
-IsGatheredFrom text parts = IfSome text (λ bytes. (v : Value) × IsShallow bytes (flatten v) × IsFound AreParts v parts)
+IsGatheredFrom text parts = IfSome text (λ bytes. (v : Value) × IsAccepted bytes v × IsFound AreParts v parts)
 
 -- what was built is wanted
 abbrev pub IsBuiltBy : Result ProfileTables ReadRefusal → Found ProfileParts → Type 0

@@ -1,28 +1,30 @@
 -- Lists that were read to their end, and what they break.
 use Rattle.std.proofs.Common.{◌≡◌, ℕ, suc, ◌<◌, ◌≤◌, Option, None, Some, List, [], ◌∷◌, ◌++◌, Bool, true, false, refl, sym, ◌∙◌, ap, subst, arith, length, take, inl, inr}
+use Rattle.prof_raw.specs.declared.limits.TheConstants.{MOST_CATEGORIES, MOST_ROWS, MOST_THREADS}
 use Rattle.std.specs.Prelude.{map, nat_le, unwrap_or, codes}
 use Rattle.std.specs.Option.{option_map, MatchOption, IsSomeAnd}
 use Rattle.std.proofs.lemmas.Bool.{cases_Bool}
 use Rattle.std.proofs.lemmas.Bool.Decides.{nat_tests}
 use Rattle.std.proofs.lemmas.List.{take_all, length-map}
 use Rattle.prof_grammar.specs.Value.{Value, null, boolean, number, string, array, object, items}
-use Rattle.prof_tables.specs.declared.rule.ListFault.{ListFault}
-use Rattle.prof_tables.specs.declared.rule.Rule.TheVariants as rule
-use Rattle.prof_tables.specs.declared.raw.State.{State}
-use Rattle.prof_tables.specs.declared.raw.State.TheVariants as state
-use Rattle.prof_tables.specs.Rules.{whole_fault}
-use Rattle.prof_tables.specs.Checks.{most_rows}
+use Rattle.prof_raw.specs.declared.rule.ListFault.{ListFault}
+use Rattle.prof_raw.specs.declared.rule.Rule.TheVariants as rule
+use Rattle.prof_raw.specs.declared.raw.State.{State}
+use Rattle.prof_raw.specs.declared.raw.State.TheVariants as state
+use Rattle.prof_raw.specs.Rules.{whole_fault}
 use Rattle.prof_layout.specs.Columns.{any_cell, capped, column_of}
 use Rattle.prof_layout.specs.Lists.{is_object, items_of, first_where, first_unfit, wrong_kind, list_fault, optional_list_fault, needed_list_fault}
 use Rattle.prof_layout.specs.Markers.{all_texts, ranges_from}
-use Rattle.prof_layout.specs.Profile.{is_category, category_name, is_grey, most_categories, most_threads, names_with}
+use Rattle.prof_layout.specs.Profile.{is_category, category_name, is_grey, names_with}
 use Rattle.prof_layout.proofs.Items.{kept_fault}
-use Rattle.prof_tables.specs.Cells.{Cells}
+use Rattle.prof_raw.specs.Cells.{Cells}
 use Rattle.prof_gather.specs.Taking.{IsTaken}
 use Rattle.prof_gather.specs.declared.objects.Kind.{Kind}
 use Rattle.prof_gather.specs.declared.objects.Kind.TheVariants as kind
-use Rattle.prof_read.specs.Gathered.{state_by, kept_items, AreThreads, IsThreadList, IsCategoryList, IsMarkerData}
-use Rattle.prof_read.specs.Columns.{state_for, NoCategories, NoThreads, NoMarkers, IsThreadListOf, IsCategoryListOf, IsMarkerDataOf}
+use Rattle.prof_column.specs.Kept.{state_by, kept_items}
+use Rattle.prof_read.specs.Gathered.{AreThreads, IsThreadList, IsCategoryList, IsMarkerData}
+use Rattle.prof_column.specs.Columns.{state_for}
+use Rattle.prof_read.specs.Columns.{NoCategories, NoThreads, NoMarkers, IsThreadListOf, IsCategoryListOf, IsMarkerDataOf}
 use Rattle.prof_read.specs.declared.lists.CategoryList.{CategoryList}
 use Rattle.prof_read.specs.declared.lists.MarkerData.{MarkerData}
 use Rattle.prof_read.specs.declared.lists.ThreadList.{ThreadList}
@@ -114,20 +116,20 @@ names-count vs names e = ap (λ (t : List (List ℕ)). length t) e ∙ length-ma
 
 -- ---- the categories' names and the default
 
-pub with_grey : (l : CategoryList) (member : Option Value) (row : ℕ) → IsCategoryList member l → optional_list_fault is_category most_categories member ≡ None → l.grey ≡ Some row →
+pub with_grey : (l : CategoryList) (member : Option Value) (row : ℕ) → IsCategoryList member l → optional_list_fault is_category MOST_CATEGORIES member ≡ None → l.grey ≡ Some row →
     (l.names.items ≡ names_with (map category_name (items_of member)) (first_where is_grey 0 (items_of member))) × (row ≡ unwrap_or (first_where is_grey 0 (items_of member)) (length (items_of member)))
 with_grey l member row h none is =
-    let whole = optional_kept is_category most_categories member none in
+    let whole = optional_kept is_category MOST_CATEGORIES member none in
     let found : first_where is_grey 0 (items_of member) ≡ Some row = ap (λ (t : List Value). first_where is_grey 0 t) (sym whole) ∙ sym h.grey ∙ is in (
       h.names ∙ ap (λ (t : List Value). map category_name t) whole ∙ ap (λ (o : Option ℕ). names_with (map category_name (items_of member)) o) (sym found),
       ap (λ (o : Option ℕ). unwrap_or o (length (items_of member))) (sym found),
     )
 
-pub without_grey : (l : CategoryList) (member : Option Value) (names : List (List ℕ)) (row : ℕ) → IsCategoryList member l → optional_list_fault is_category most_categories member ≡ None → l.grey ≡ None →
+pub without_grey : (l : CategoryList) (member : Option Value) (names : List (List ℕ)) (row : ℕ) → IsCategoryList member l → optional_list_fault is_category MOST_CATEGORIES member ≡ None → l.grey ≡ None →
     names ≡ l.names.items ++ codes "Other" ∷ [] → row ≡ length l.names.items →
     (names ≡ names_with (map category_name (items_of member)) (first_where is_grey 0 (items_of member))) × (row ≡ unwrap_or (first_where is_grey 0 (items_of member)) (length (items_of member)))
 without_grey l member names row h none is grown count =
-    let whole = optional_kept is_category most_categories member none in
+    let whole = optional_kept is_category MOST_CATEGORIES member none in
     let found : first_where is_grey 0 (items_of member) ≡ None = ap (λ (t : List Value). first_where is_grey 0 t) (sym whole) ∙ sym h.grey ∙ is in
     let all : l.names.items ≡ map category_name (items_of member) = h.names ∙ ap (λ (t : List Value). map category_name t) whole in (
       grown ∙ ap (λ (t : List (List ℕ)). t ++ codes "Other" ∷ []) all ∙ ap (λ (o : Option ℕ). names_with (map category_name (items_of member)) o) (sym found),
@@ -156,7 +158,7 @@ no_threads : (ts : List ThreadParts) → AreThreads [] ts → ts ≡ []
 no_threads [] h = refl
 no_threads (t ∷ ts) h = absurd h
 
-threads_left : (v : Value) (first l new : ThreadList) → kept_items most_threads (Some v) ≡ [] → IsThreadList None first → l ≡ first → new.state ≡ state_by true (Some v) → new.threads.items ≡ l.threads.items → new.bad ≡ l.bad → IsThreadList (Some v) new
+threads_left : (v : Value) (first l new : ThreadList) → kept_items MOST_THREADS (Some v) ≡ [] → IsThreadList None first → l ≡ first → new.state ≡ state_by true (Some v) → new.threads.items ≡ l.threads.items → new.bad ≡ l.bad → IsThreadList (Some v) new
 threads_left v first l new e none same s a b = record {
   state = s;
   threads = subst (λ (vs : List Value). AreThreads vs new.threads.items) (sym e)
@@ -168,7 +170,7 @@ pub threads_read : (v : Value) (first l new : ThreadList) (k : Kind) → IsThrea
     new.state ≡ state_for true k → new.threads.items ≡ l.threads.items → new.bad ≡ l.bad → IsThreadList (Some v) new
 threads_read (array vs) first l new k none h s a b =
     let start : NoThreads first = (no_threads first.threads.items none.threads, none.bad) in
-    record { state = s ∙ ap (state_for true) h.0; threads = subst (λ (ts : List ThreadParts). AreThreads (kept_items most_threads (Some (array vs))) ts) (sym a) (h.1.threads start); bad = b ∙ h.1.bad start }
+    record { state = s ∙ ap (state_for true) h.0; threads = subst (λ (ts : List ThreadParts). AreThreads (kept_items MOST_THREADS (Some (array vs))) ts) (sym a) (h.1.threads start); bad = b ∙ h.1.bad start }
 threads_read null first l new k none h s a b = threads_left null first l new refl none h.1 (s ∙ ap (state_for true) h.0) a b
 threads_read (boolean t) first l new k none h s a b = threads_left (boolean t) first l new refl none h.1 (s ∙ ap (state_for true) h.0) a b
 threads_read (number t) first l new k none h s a b = threads_left (number t) first l new refl none h.1 (s ∙ ap (state_for true) h.0) a b
@@ -181,7 +183,7 @@ with_state s c = record { state = s; cells = c.cells; bad = c.bad }
 abbrev pub empty_with : State → Cells
 empty_with s = record { state = s; cells = []; bad = None }
 
-markers_left : (v : Value) (first l new : MarkerData) (s : State) → kept_items most_rows (Some v) ≡ [] → capped most_rows (column_of any_cell false (Some v)) ≡ empty_with s →
+markers_left : (v : Value) (first l new : MarkerData) (s : State) → kept_items MOST_ROWS (Some v) ≡ [] → capped MOST_ROWS (column_of any_cell false (Some v)) ≡ empty_with s →
     first.column ≡ empty_with state.Array → first.texts.items ≡ [] → first.ranges.items ≡ [] → l ≡ first →
     new.column ≡ with_state s l.column → new.texts.items ≡ l.texts.items → new.ranges.items ≡ l.ranges.items → IsMarkerData (Some v) new
 markers_left v first l new s e column c t r same a b d = record {

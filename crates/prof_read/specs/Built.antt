@@ -1,6 +1,6 @@
 -- What is built of a value that was gathered.
 use Rattle.std.specs.Prelude.{◌≡◌, ℕ, List, Option, Some, None, Result, Ok, Err, ⊤}
-use Rattle.prof_tables.specs.declared.rule.Broken.{Broken}
+use Rattle.prof_raw.specs.declared.rule.Broken.{Broken}
 use Rattle.prof_read.specs.declared.refusal.ReadRefusal.{ReadRefusal}
 use Rattle.prof_read.specs.declared.refusal.ReadRefusal.TheVariants as refusal
 

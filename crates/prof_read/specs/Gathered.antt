@@ -1,20 +1,21 @@
 -- What was gathered of the members of a text: of each list and column at most one row more than its limit.
 use Rattle.std.specs.Prelude.{◌≡◌, ℕ, suc, List, [], ◌∷◌, Bool, true, false, if◌then◌else◌, Option, None, Some, take, map, codes, is_some, string_bytes, ⊤}
+use Rattle.prof_column.specs.Kept.{string_of, state_by, kept_column, kept_items, IsTextList}
+use Rattle.prof_raw.specs.declared.limits.TheConstants.{MOST_CATEGORIES, MOST_FUNCS, MOST_ROWS, MOST_SAMPLES, MOST_STRINGS, MOST_THREADS}
 use Rattle.std.specs.Option.{option_map}
 use Rattle.prof_grammar.specs.Value.{Value, Members, last_named}
-use Rattle.prof_tables.specs.declared.raw.State.{State}
-use Rattle.prof_tables.specs.declared.raw.State.TheVariants.{Absent, NotArray, Array}
-use Rattle.prof_tables.specs.Cells.{Cells}
-use Rattle.prof_tables.specs.Checks.{most_funcs, most_rows, most_samples}
+use Rattle.prof_raw.specs.declared.raw.State.{State}
+use Rattle.prof_raw.specs.declared.raw.State.TheVariants.{Absent, NotArray, Array}
+use Rattle.prof_raw.specs.Cells.{Cells}
 use Rattle.prof_layout.specs.declared.reading.Reading.{Reading}
 use Rattle.prof_layout.specs.declared.reading.Reading.TheVariants as reading
 use Rattle.prof_layout.specs.Columns.{raw_column, column_of, any_cell, capped}
 use Rattle.prof_layout.specs.Lists.{items_of, texts_of, is_text, is_object, first_where, first_unfit}
 use Rattle.prof_layout.specs.Markers.{all_texts, ranges_from}
-use Rattle.prof_layout.specs.Profile.{is_category, category_name, is_grey, most_categories, most_threads}
-use Rattle.prof_layout.specs.Tables.{most_strings, said_by, weight_unit}
+use Rattle.prof_layout.specs.Profile.{is_category, category_name, is_grey}
+use Rattle.prof_layout.specs.Tables.{said_by, weight_unit}
 use Rattle.prof_gather.specs.Taking.{IsFoundIn}
-use Rattle.prof_read.specs.declared.lists.TextList.{TextList}
+use Rattle.prof_column.specs.declared.list.TextList.{TextList}
 use Rattle.prof_read.specs.declared.lists.CategoryList.{CategoryList}
 use Rattle.prof_read.specs.declared.categories.Category.{Category}
 use Rattle.prof_read.specs.declared.samples.Weights.{Weights}
@@ -31,32 +32,7 @@ use Rattle.prof_read.specs.declared.lists.ThreadList.{ThreadList}
 use Rattle.prof_read.specs.declared.parts.Meta.{Meta}
 use Rattle.prof_read.specs.declared.parts.ProfileParts.{ProfileParts}
 
--- the text of a member that is a string
-abbrev pub string_of : Option Value → Option (List ℕ)
-string_of (Some (Value.string text)) = Some text
-string_of _ = None
-
--- The state of a member that should be an array. One that isn't needed may be null.
-abbrev pub state_by : Bool → Option Value → State
-state_by needed None = Absent
-state_by needed (Some (Value.array vs)) = Array
-state_by needed (Some Value.null) = if needed then NotArray else Absent
-state_by needed (Some _) = NotArray
-
--- what is kept of a member's column
-abbrev pub kept_column : ℕ → Reading → Bool → Option Value → Cells
-kept_column most r needed member = capped most (raw_column r needed member)
-
--- the items that are kept of a member's list
-abbrev pub kept_items : ℕ → Option Value → List Value
-kept_items most member = take (suc most) (items_of member)
-
--- ---- lists of texts, and of categories
-
-pub record IsTextList (member : Option Value) (l : TextList) : Type 0 where
-  pub state : l.state ≡ state_by true member
-  pub texts : map string_bytes l.texts.items ≡ take (suc most_strings) (texts_of member)
-  pub bad : l.bad ≡ first_unfit is_text (kept_items most_strings member)
+-- ---- lists of categories
 
 pub record AreCategoryMembers (ms : Members) (c : Category) : Type 0 where
   pub name : option_map string_bytes c.name ≡ string_of (last_named (codes "name") ms)
@@ -64,57 +40,57 @@ pub record AreCategoryMembers (ms : Members) (c : Category) : Type 0 where
 
 pub record IsCategoryList (member : Option Value) (l : CategoryList) : Type 0 where
   pub state : l.state ≡ state_by false member
-  pub names : l.names.items ≡ map category_name (kept_items most_categories member)
-  pub bad : l.bad ≡ first_unfit is_category (kept_items most_categories member)
-  pub grey : l.grey ≡ first_where is_grey 0 (kept_items most_categories member)
+  pub names : l.names.items ≡ map category_name (kept_items MOST_CATEGORIES member)
+  pub bad : l.bad ≡ first_unfit is_category (kept_items MOST_CATEGORIES member)
+  pub grey : l.grey ≡ first_where is_grey 0 (kept_items MOST_CATEGORIES member)
 
 -- ---- tables
 
 -- the weights by both readings
 pub record AreWeights (member : Option Value) (w : Weights) : Type 0 where
-  pub counts : w.counts ≡ kept_column most_samples reading.Count false member
-  pub times : w.times ≡ kept_column most_samples reading.Time false member
+  pub counts : w.counts ≡ kept_column MOST_SAMPLES reading.Count false member
+  pub times : w.times ≡ kept_column MOST_SAMPLES reading.Time false member
 
 pub record AreSampleColumns (ms : Members) (t : SampleTable) : Type 0 where
-  pub stack : t.stack ≡ kept_column most_samples reading.MaybeIndex true (last_named (codes "stack") ms)
-  pub time : t.time ≡ kept_column most_samples reading.Time false (last_named (codes "time") ms)
-  pub deltas : t.time_deltas ≡ kept_column most_samples reading.Time false (last_named (codes "timeDeltas") ms)
+  pub stack : t.stack ≡ kept_column MOST_SAMPLES reading.MaybeIndex true (last_named (codes "stack") ms)
+  pub time : t.time ≡ kept_column MOST_SAMPLES reading.Time false (last_named (codes "time") ms)
+  pub deltas : t.time_deltas ≡ kept_column MOST_SAMPLES reading.Time false (last_named (codes "timeDeltas") ms)
   pub unit : t.unit ≡ weight_unit (last_named (codes "weightType") ms)
   pub weights : AreWeights (last_named (codes "weight") ms) t.weights
   pub length : t.length ≡ said_by (last_named (codes "length") ms)
 
 pub record AreResourceColumns (ms : Members) (t : ResourceTable) : Type 0 where
-  pub name : t.name ≡ kept_column most_funcs reading.Index true (last_named (codes "name") ms)
+  pub name : t.name ≡ kept_column MOST_FUNCS reading.Index true (last_named (codes "name") ms)
   pub length : t.length ≡ said_by (last_named (codes "length") ms)
 
 pub record AreFuncColumns (ms : Members) (t : FuncTable) : Type 0 where
-  pub name : t.name ≡ kept_column most_funcs reading.Index true (last_named (codes "name") ms)
-  pub is_js : t.is_js ≡ kept_column most_funcs reading.Truth false (last_named (codes "isJS") ms)
-  pub relevant : t.relevant_for_js ≡ kept_column most_funcs reading.Truth false (last_named (codes "relevantForJS") ms)
-  pub resource : t.resource ≡ kept_column most_funcs reading.Index false (last_named (codes "resource") ms)
-  pub file : t.file_name ≡ kept_column most_funcs reading.MaybeIndex false (last_named (codes "fileName") ms)
+  pub name : t.name ≡ kept_column MOST_FUNCS reading.Index true (last_named (codes "name") ms)
+  pub is_js : t.is_js ≡ kept_column MOST_FUNCS reading.Truth false (last_named (codes "isJS") ms)
+  pub relevant : t.relevant_for_js ≡ kept_column MOST_FUNCS reading.Truth false (last_named (codes "relevantForJS") ms)
+  pub resource : t.resource ≡ kept_column MOST_FUNCS reading.Index false (last_named (codes "resource") ms)
+  pub file : t.file_name ≡ kept_column MOST_FUNCS reading.MaybeIndex false (last_named (codes "fileName") ms)
   pub length : t.length ≡ said_by (last_named (codes "length") ms)
 
 pub record AreFrameColumns (ms : Members) (t : FrameTable) : Type 0 where
-  pub func : t.func ≡ kept_column most_rows reading.Index true (last_named (codes "func") ms)
-  pub category : t.category ≡ kept_column most_rows reading.MaybeIndex false (last_named (codes "category") ms)
+  pub func : t.func ≡ kept_column MOST_ROWS reading.Index true (last_named (codes "func") ms)
+  pub category : t.category ≡ kept_column MOST_ROWS reading.MaybeIndex false (last_named (codes "category") ms)
   pub length : t.length ≡ said_by (last_named (codes "length") ms)
 
 pub record AreStackColumns (ms : Members) (t : StackTable) : Type 0 where
-  pub frame : t.frame ≡ kept_column most_rows reading.Index true (last_named (codes "frame") ms)
-  pub prefix : t.prefix ≡ kept_column most_rows reading.MaybeIndex true (last_named (codes "prefix") ms)
+  pub frame : t.frame ≡ kept_column MOST_ROWS reading.Index true (last_named (codes "frame") ms)
+  pub prefix : t.prefix ≡ kept_column MOST_ROWS reading.MaybeIndex true (last_named (codes "prefix") ms)
   pub length : t.length ≡ said_by (last_named (codes "length") ms)
 
 pub record IsMarkerData (member : Option Value) (d : MarkerData) : Type 0 where
-  pub column : d.column ≡ capped most_rows (column_of any_cell false member)
-  pub texts : d.texts.items ≡ all_texts (kept_items most_rows member)
-  pub ranges : d.ranges.items ≡ ranges_from 0 (kept_items most_rows member)
+  pub column : d.column ≡ capped MOST_ROWS (column_of any_cell false member)
+  pub texts : d.texts.items ≡ all_texts (kept_items MOST_ROWS member)
+  pub ranges : d.ranges.items ≡ ranges_from 0 (kept_items MOST_ROWS member)
 
 pub record AreMarkerColumns (ms : Members) (t : MarkerTable) : Type 0 where
-  pub phase : t.phase ≡ kept_column most_rows reading.Phase true (last_named (codes "phase") ms)
-  pub name : t.name ≡ kept_column most_rows reading.Index true (last_named (codes "name") ms)
-  pub start : t.start_time ≡ kept_column most_rows reading.MaybeTime true (last_named (codes "startTime") ms)
-  pub end : t.end_time ≡ kept_column most_rows reading.MaybeTime true (last_named (codes "endTime") ms)
+  pub phase : t.phase ≡ kept_column MOST_ROWS reading.Phase true (last_named (codes "phase") ms)
+  pub name : t.name ≡ kept_column MOST_ROWS reading.Index true (last_named (codes "name") ms)
+  pub start : t.start_time ≡ kept_column MOST_ROWS reading.MaybeTime true (last_named (codes "startTime") ms)
+  pub end : t.end_time ≡ kept_column MOST_ROWS reading.MaybeTime true (last_named (codes "endTime") ms)
   pub data_ : IsMarkerData (last_named (codes "data") ms) t.data
   pub length : t.length ≡ said_by (last_named (codes "length") ms)
 
@@ -146,8 +122,8 @@ AreThreads (v ∷ vs) (t ∷ ts) = IsThread v t × AreThreads vs ts
 
 pub record IsThreadList (member : Option Value) (l : ThreadList) : Type 0 where
   pub state : l.state ≡ state_by true member
-  pub threads : AreThreads (kept_items most_threads member) l.threads.items
-  pub bad : l.bad ≡ first_unfit is_object (kept_items most_threads member)
+  pub threads : AreThreads (kept_items MOST_THREADS member) l.threads.items
+  pub bad : l.bad ≡ first_unfit is_object (kept_items MOST_THREADS member)
 
 pub record AreMeta (ms : Members) (m : Meta) : Type 0 where
   pub processed : m.processed ≡ is_some (last_named (codes "preprocessedProfileVersion") ms)

@@ -1,30 +1,32 @@
 //! The profile of what was gathered, or the first check that fails.
 ghost use Rattle.std.specs.Prelude.{◌≡◌, ◌≤◌, ◌<◌, ℕ, List, true, Option, None, IfOk, IfErr, IfSome, map, vec_len, length, codes, All};
+ghost use Rattle.prof_raw.specs.declared.limits.TheConstants.{MOST_STRINGS};
 ghost use Rattle.std.specs.Option.{option_map};
 ghost use Rattle.prof_tables.specs.Profiles.{CountsIn};
-ghost use Rattle.prof_tables.specs.Checks.{Passes, named};
+ghost use Rattle.prof_raw.specs.Checks.{Passes, named};
 ghost use Rattle.prof_grammar.specs.Value.{Value, Members, field};
 ghost use Rattle.prof_layout.specs.Lists.{is_object, first_unfit};
-ghost use Rattle.prof_layout.specs.Tables.{most_strings};
+ghost use Rattle.prof_layout.specs.Kept.{kept_shared};
+ghost use Rattle.prof_layout.specs.Tables as table_layout;
 ghost use Rattle.prof_layout.specs.Profile as layout;
 ghost use Rattle.prof_gather.specs.Taking.{IsFound, IsFoundIn};
-ghost use Rattle.prof_read.specs.Gathered.{AreParts, AreShared, AreThread, AreThreads, IsTextList, IsCategoryList};
+ghost use Rattle.prof_column.specs.Kept.{IsTextList};
+ghost use Rattle.prof_read.specs.Gathered.{AreParts, AreShared, AreThread, AreThreads, IsCategoryList};
 ghost use Rattle.prof_read.specs.Built.{Reads, ReadsAs};
 ghost use Rattle.prof_read.specs.Raw.{HoldsStrings, counting_texts, counting_fault};
 ghost use Rattle.prof_read.specs.Bases.{IsBase, IsBaseOf, AreCounts, StandsOn, IsBuilding};
 
 use crate::ReadRefusal;
-use crate::lists::{CategoryList, TextList, ThreadList};
+use crate::lists::{CategoryList, ThreadList};
 use crate::parts::{Meta, ProfileParts};
-use crate::raw::{HeldStrings, held_strings, raw_shared, raw_thread};
+use crate::raw::{HeldStrings, held_strings, raw_own, raw_shared, tables_over};
 use crate::shared::SharedTables;
-use crate::texts::whole;
 use crate::threads::ThreadParts;
+use prof_column::TextList;
 use prof_gather::Found;
 use prof_io::{NoMemory, Text};
-use prof_tables::{
-    Broken, Column, ListFault, Profile, Rule, Shared, State, Strings, Table, Thread,
-};
+use prof_raw::{Broken, Column, ListFault, RawShared, Rule, State, Strings, Table};
+use prof_tables::{Profile, Shared, Thread};
 use std::alloc::Global;
 use std::rc::Rc;
 
@@ -107,7 +109,7 @@ fn thread_strings(
     own: TextList,
     common: &Option<Rc<Strings>>,
 ) -> Result<HeldStrings, NoMemory>
-    ensures { IfOk result (λ held. (texts : Option (List (List ℕ))) (member : Option Value) → option_map (λ s. s.value) common.now ≡ texts → IfSome texts (λ strings. length strings ≤ most_strings)
+    ensures { IfOk result (λ held. (texts : Option (List (List ℕ))) (member : Option Value) → option_map (λ s. s.value) common.now ≡ texts → IfSome texts (λ strings. length strings ≤ MOST_STRINGS)
         → IsTextList member own → HoldsStrings (counting_texts texts member) (counting_fault texts member) held) }
 {
     match common {
@@ -122,11 +124,26 @@ fn thread_strings(
     }
 }
 
+/// The raw tables of a thread that has them, over its own strings where they are there, else over the common ones.
+fn raw_tables(
+    alloc: Global,
+    mut tables: SharedTables,
+    common: &Option<Rc<Strings>>,
+) -> Result<RawShared, NoMemory>
+    ensures { IfOk result (λ raw. (texts : Option (List (List ℕ))) (ms : Members) → option_map (λ s. s.value) common.now ≡ texts
+        → IfSome texts (λ strings. length strings ≤ MOST_STRINGS) → AreShared ms tables
+        → raw ≡ kept_shared (table_layout.raw_tables texts (Value.object ms))) }
+{
+    let own = std::mem::replace(&mut tables.strings, TextList::absent(alloc));
+    let strings = thread_strings(alloc, own, common)?;
+    Ok(tables_over(alloc, tables, strings))
+}
+
 /// The thread of this number, of what was gathered of it.
 fn build_thread(
     alloc: Global,
     base: &Base,
-    mut parts: ThreadParts,
+    parts: ThreadParts,
     number: u32,
     categories: u32,
     default: u32,
@@ -137,19 +154,22 @@ fn build_thread(
     ensures err { IfErr result IsBuilding }
     ensures thread { (v : Value) (ms : Members) → StandsOn v categories default base.now → AreThread ms parts → Reads (λ t. t) result (layout.thread_fails v number (Value.object ms)) (layout.thread_tables v (Value.object ms)) }
 {
-    let own = std::mem::replace(&mut parts.shared.strings, TextList::absent(alloc));
+    let ThreadParts {
+        name,
+        shared: gathered,
+        samples,
+        markers,
+    } = parts;
+    let own = raw_own(alloc, name, samples, markers)?;
     match base {
         Base::Own(common) => {
-            let strings = thread_strings(alloc, own, common)?;
-            let raw = raw_thread(alloc, parts, strings)?;
-            let thread = Thread::build(alloc, raw, number, categories, default)?;
+            let tables = raw_tables(alloc, gathered, common)?;
+            let thread = Thread::build_parts(alloc, tables, own, number, categories, default)?;
             Ok(thread)
         }
         Base::Shared(shared) => {
-            let strings = held_strings(alloc, TextList::absent(alloc))?;
-            let raw = raw_thread(alloc, parts, strings)?;
             let shared = shared.clone()?;
-            let thread = Thread::build_on(alloc, shared, raw, number)?;
+            let thread = Thread::build_own(alloc, shared, own, number)?;
             Ok(thread)
         }
     }

@@ -11,19 +11,15 @@ ghost use Rattle.prof_read.specs.Named.{category_member_name};
 ghost use Rattle.std.specs.Option.{ForSome};
 ghost use Rattle.prof_gather.specs.Feeding.{IsWithin, IsBegun, Passes, Finishes, Refuses, in_member};
 
-use crate::columns::state_of;
 use crate::lists::CategoryList;
-use crate::texts::{text, whole};
+use prof_column::{state_of, text, whole};
 use prof_gather::{
     Feed, FromItems, FromMembers, GatherRefusal, Start, array, members, skip_behind,
 };
 use prof_io::{NoMemory, Source, Text};
 use prof_json::Event;
-use prof_tables::{ListFault, Rule, State};
+use prof_raw::{ListFault, MOST_CATEGORIES, Rule, State};
 use std::alloc::Global;
-
-/// The most categories of a profile.
-const MOST_CATEGORIES: u32 = 1 << 16;
 
 /// A row of the list.
 #[derive(Drop)]
@@ -65,17 +61,25 @@ fn is_grey<R: Source, W: Start>(alloc: Global, feed: &mut Feed<R, W>) -> Result<
     }
 }
 
-impl FromMembers for Category {
+impl Category {
+    ghost use Rattle.prof_grammar.specs.Value.{no_members};
     ghost use Rattle.prof_read.specs.Gathered.{AreCategoryMembers};
 
-    ghost is = { λ ms c. AreCategoryMembers ms c };
-
-    fn none(_alloc: Global) -> Self {
+    /// What is gathered of no member.
+    pub fn none(_alloc: Global) -> Self
+        ensures { AreCategoryMembers no_members result }
+    {
         Category {
             name: None,
             grey: false,
         }
     }
+}
+
+impl FromMembers for Category {
+    ghost use Rattle.prof_read.specs.Gathered.{AreCategoryMembers};
+
+    ghost is = { λ ms c. AreCategoryMembers ms c };
 
     fn take_member<R: Source, W: Start>(
         &mut self,
@@ -105,7 +109,7 @@ impl CategoryList {
 
     /// The first rule that the list breaks.
     pub fn fault(&self) -> Option<ListFault>
-        ensures { (member : Option Value) → IsCategoryList member self.now → result ≡ optional_list_fault layout.is_category layout.most_categories member }
+        ensures { (member : Option Value) → IsCategoryList member self.now → result ≡ optional_list_fault layout.is_category MOST_CATEGORIES member }
     {
         match self.state {
             State::Absent => None,
@@ -145,7 +149,7 @@ impl CategoryList {
     /// The names of the categories and the default, which is added after the last where none is grey.
     pub fn finish(self, alloc: Global) -> Result<(Vec<Text>, u32), NoMemory>
         ensures within { IfOk result (λ r. (r.1 < vec_len r.0) × (vec_len r.0 ≤ 65538)) }
-        ensures is { IfOk result (λ r. (member : Option Value) → IsCategoryList member self → optional_list_fault layout.is_category layout.most_categories member ≡ None
+        ensures is { IfOk result (λ r. (member : Option Value) → IsCategoryList member self → optional_list_fault layout.is_category MOST_CATEGORIES member ≡ None
             → (r.0.items ≡ layout.names_with (map layout.category_name (items_of member)) (first_where layout.is_grey 0 (items_of member)))
             × (r.1 ≡ unwrap_or (first_where layout.is_grey 0 (items_of member)) (length (items_of member)))) }
     {
@@ -181,7 +185,7 @@ impl FromItems for CategoryList {
         }
         match first {
             Event::ObjectStart => {
-                let Category { name, grey } = members(alloc, feed)?;
+                let Category { name, grey } = members(alloc, feed, Category::none(alloc))?;
                 self.add(alloc, name, grey)?;
                 Ok(())
             }

@@ -3,8 +3,6 @@
 
 mod building;
 mod categories;
-mod cells;
-mod columns;
 mod lists;
 mod markers;
 mod parts;
@@ -13,11 +11,7 @@ mod read;
 mod refusal;
 mod samples;
 mod shared;
-mod texts;
 mod threads;
 
 pub use read::{Digest, Form, read_profile};
 pub use refusal::ReadRefusal;
-
-#[cfg(test)]
-mod tests;

@@ -7,16 +7,6 @@ use crate::threads::ThreadParts;
 use prof_io::Text;
 use prof_tables::{RawColumn, State};
 
-/// A list of strings that is gathered: at most one more than a list may have. `bad` is the first row that is no string;
-/// there the empty text stands.
-#[derive(Drop)]
-pub struct TextList {
-    pub state: State,
-    pub texts: Vec<String>,
-    pub bad: Option<u32>,
-    ghost few: { vec_len texts ≤ 4194305 },
-}
-
 /// The list of categories that is gathered: at most one more than it may have. `bad` is the first row that is no object
 /// with a string name, where the empty name stands, and `grey` is the first that is grey.
 #[derive(Drop)]

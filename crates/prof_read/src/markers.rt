@@ -10,17 +10,16 @@ ghost use Rattle.prof_read.specs.Columns.{IsMarkerDataOf};
 ghost use Rattle.prof_read.specs.Fields.{field_texts};
 ghost use Rattle.prof_read.specs.Named.{marker_name};
 
-use crate::columns::{MOST_ROWS, add_cell, column, empty_column, state_of, table_length};
 use crate::lists::MarkerData;
-use crate::texts::text;
 use indexmap::IndexMap;
+use prof_column::{add_cell, column, empty_column, state_of, table_length, text};
 use prof_gather::{
     Feed, FromItems, FromMembers, GatherRefusal, Start, array, members, skip_behind,
 };
 use prof_io::{NoMemory, Source, Text};
 use prof_json::Event;
 use prof_layout::Reading;
-use prof_tables::{RawColumn, State, TableLength};
+use prof_raw::{MOST_ROWS, RawColumn, State, TableLength};
 use std::alloc::Global;
 
 /// The members of a marker's data, in the order in which their names come first, each with its last value where that is
@@ -30,16 +29,24 @@ struct MarkerFields {
     fields: IndexMap<String, Option<String>>,
 }
 
-impl FromMembers for MarkerFields {
+impl MarkerFields {
+    ghost use Rattle.prof_grammar.specs.Value.{no_members};
     ghost use Rattle.prof_read.specs.Fields.{AreFields};
 
-    ghost is = { λ ms f. AreFields ms f };
-
-    fn none(alloc: Global) -> Self {
+    /// What is gathered of no member.
+    pub fn none(alloc: Global) -> Self
+        ensures { AreFields no_members result }
+    {
         MarkerFields {
             fields: IndexMap::new(alloc),
         }
     }
+}
+
+impl FromMembers for MarkerFields {
+    ghost use Rattle.prof_read.specs.Fields.{AreFields};
+
+    ghost is = { λ ms f. AreFields ms f };
 
     fn take_member<R: Source, W: Start>(
         &mut self,
@@ -135,7 +142,7 @@ impl FromItems for MarkerData {
     ) -> Result<(), GatherRefusal> {
         match first {
             Event::ObjectStart => {
-                let fields: MarkerFields = members(alloc, feed)?;
+                let fields = members(alloc, feed, MarkerFields::none(alloc))?;
                 self.add(alloc, &fields)?;
                 Ok(())
             }
@@ -200,12 +207,14 @@ fn marker_member(name: &str) -> Option<MarkerMember>
     }
 }
 
-impl FromMembers for MarkerTable {
+impl MarkerTable {
+    ghost use Rattle.prof_grammar.specs.Value.{no_members};
     ghost use Rattle.prof_read.specs.Gathered.{AreMarkerColumns};
 
-    ghost is = { λ ms t. AreMarkerColumns ms t };
-
-    fn none(alloc: Global) -> Self {
+    /// What is gathered of no member.
+    pub fn none(alloc: Global) -> Self
+        ensures { AreMarkerColumns no_members result }
+    {
         MarkerTable {
             phase: empty_column(alloc, State::Absent),
             name: empty_column(alloc, State::Absent),
@@ -215,6 +224,12 @@ impl FromMembers for MarkerTable {
             length: TableLength::Unsaid,
         }
     }
+}
+
+impl FromMembers for MarkerTable {
+    ghost use Rattle.prof_read.specs.Gathered.{AreMarkerColumns};
+
+    ghost is = { λ ms t. AreMarkerColumns ms t };
 
     fn take_member<R: Source, W: Start>(
         &mut self,

@@ -34,17 +34,25 @@ fn meta_member(name: &str) -> Option<MetaMember>
     }
 }
 
-impl FromMembers for Meta {
+impl Meta {
+    ghost use Rattle.prof_grammar.specs.Value.{no_members};
     ghost use Rattle.prof_read.specs.Gathered.{AreMeta};
 
-    ghost is = { λ ms m. AreMeta ms m };
-
-    fn none(alloc: Global) -> Self {
+    /// What is gathered of no member.
+    pub fn none(alloc: Global) -> Self
+        ensures { AreMeta no_members result }
+    {
         Meta {
             processed: false,
             categories: CategoryList::absent(alloc),
         }
     }
+}
+
+impl FromMembers for Meta {
+    ghost use Rattle.prof_read.specs.Gathered.{AreMeta};
+
+    ghost is = { λ ms m. AreMeta ms m };
 
     fn take_member<R: Source, W: Start>(
         &mut self,
@@ -89,18 +97,26 @@ fn profile_member(name: &str) -> Option<ProfileMember>
     }
 }
 
-impl FromMembers for ProfileParts {
+impl ProfileParts {
+    ghost use Rattle.prof_grammar.specs.Value.{no_members};
     ghost use Rattle.prof_read.specs.Gathered.{AreParts};
 
-    ghost is = { λ ms p. AreParts ms p };
-
-    fn none(alloc: Global) -> Self {
+    /// What is gathered of no member.
+    pub fn none(alloc: Global) -> Self
+        ensures { AreParts no_members result }
+    {
         ProfileParts {
             meta: Found::Absent,
             shared: Found::Absent,
             threads: ThreadList::absent(alloc),
         }
     }
+}
+
+impl FromMembers for ProfileParts {
+    ghost use Rattle.prof_read.specs.Gathered.{AreParts};
+
+    ghost is = { λ ms p. AreParts ms p };
 
     fn take_member<R: Source, W: Start>(
         &mut self,
@@ -108,8 +124,12 @@ impl FromMembers for ProfileParts {
         feed: &mut Feed<R, W>,
     ) -> Result<(), GatherRefusal> {
         match profile_member(feed.name()) {
-            Some(ProfileMember::Meta) => self.meta = object(alloc, feed)?,
-            Some(ProfileMember::Shared) => self.shared = object(alloc, feed)?,
+            Some(ProfileMember::Meta) => self.meta = object(alloc, feed, Meta::none(alloc))?,
+            Some(ProfileMember::Shared) => self.shared = object(
+                alloc,
+                feed,
+                SharedTables::none(alloc),
+            )?,
             Some(ProfileMember::Threads) => self.threads = thread_list(alloc, feed)?,
             None => feed.skip_member(alloc)?,
         }

@@ -1,29 +1,29 @@
 //! Raw tables of what was gathered.
 ghost use Rattle.std.specs.Prelude.{◌≡◌, List, ℕ, false, Option, Some, None, [], IfOk, length, codes, unwrap_or, string_bytes};
+ghost use Rattle.prof_raw.specs.declared.limits.TheConstants.{MOST_FUNCS, MOST_ROWS, MOST_SAMPLES};
 ghost use Rattle.std.specs.Option.{option_map};
 ghost use Rattle.prof_grammar.specs.Value.{Value, Members, last_named};
-ghost use Rattle.prof_tables.specs.Checks.{most_funcs, most_rows, most_samples};
 ghost use Rattle.prof_layout.specs.declared.reading.Reading.TheVariants as reading;
 ghost use Rattle.prof_layout.specs.Columns.{capped, column_of, read_cell};
 ghost use Rattle.prof_layout.specs.Lists as layout_texts;
 ghost use Rattle.prof_layout.specs.Tables as layout;
 ghost use Rattle.prof_layout.specs.Kept as kept;
 ghost use Rattle.prof_gather.specs.Taking.{IsFoundIn};
-ghost use Rattle.prof_read.specs.Gathered.{IsTextList, AreResourceColumns, AreFuncColumns, AreFrameColumns, AreStackColumns, AreSampleColumns, AreMarkerColumns, AreShared, AreThread, AreWeights};
-ghost use Rattle.prof_read.specs.Raw.{AreResources, AreFuncs, AreFrames, AreStacks, AreSamples, AreMarkers, HoldsStrings, raw_over};
-ghost use Rattle.prof_tables.specs.declared.rule.ListFault.{ListFault};
-ghost use Rattle.prof_read.specs.declared.lists.TextList.{TextList};
+ghost use Rattle.prof_column.specs.Kept.{IsTextList, string_of};
+ghost use Rattle.prof_read.specs.Gathered.{AreResourceColumns, AreFuncColumns, AreFrameColumns, AreStackColumns, AreSampleColumns, AreMarkerColumns, AreShared, AreWeights};
+ghost use Rattle.prof_read.specs.Raw.{AreResources, AreFuncs, AreFrames, AreStacks, AreSamples, AreMarkers, HoldsStrings};
+ghost use Rattle.prof_raw.specs.declared.rule.ListFault.{ListFault};
+ghost use Rattle.prof_column.specs.declared.list.TextList.{TextList};
 ghost use Rattle.prof_read.specs.Ranges.{AreRanges};
 
-use crate::columns::empty_column;
-use crate::lists::{MarkerData, TextList};
+use crate::lists::MarkerData;
 use crate::markers::MarkerTable;
 use crate::samples::{SampleTable, Weights};
 use crate::shared::{FrameTable, FuncTable, ResourceTable, SharedTables, StackTable};
-use crate::threads::ThreadParts;
-use prof_gather::{Found, FromMembers};
+use prof_column::{TextList, empty_column};
+use prof_gather::Found;
 use prof_io::{NoMemory, Text};
-use prof_tables::{ListFault, RawColumn, RawShared, RawThread, State, Strings, Unit};
+use prof_raw::{ListFault, RawColumn, RawOwn, RawShared, State, Strings, Unit};
 use std::alloc::Global;
 use std::rc::Rc;
 
@@ -113,8 +113,8 @@ fn marker_columns(alloc: Global, table: Found<MarkerTable>) -> (bool, MarkerTabl
 
 /// The times of the samples, and whether they are deltas: where both are there the times count.
 fn time_column(time: RawColumn, deltas: RawColumn) -> (RawColumn, bool)
-    ensures { (table : Option Value) → time ≡ capped most_samples (layout.optional_cells reading.Time table (codes "time")) → deltas ≡ capped most_samples (layout.optional_cells reading.Time table (codes "timeDeltas"))
-        → (result.0 ≡ capped most_samples (layout.time_cells table)) × (result.1 ≡ layout.has_deltas table) }
+    ensures { (table : Option Value) → time ≡ capped MOST_SAMPLES (layout.optional_cells reading.Time table (codes "time")) → deltas ≡ capped MOST_SAMPLES (layout.optional_cells reading.Time table (codes "timeDeltas"))
+        → (result.0 ≡ capped MOST_SAMPLES (layout.time_cells table)) × (result.1 ≡ layout.has_deltas table) }
 {
     if time.state == State::Absent && deltas.state != State::Absent {
         (deltas, true)
@@ -124,7 +124,7 @@ fn time_column(time: RawColumn, deltas: RawColumn) -> (RawColumn, bool)
 }
 
 fn weight_column(weights: Weights, unit: Option<Unit>) -> RawColumn
-    ensures { (member : Option Value) → AreWeights member weights → result ≡ capped most_samples (column_of (read_cell (layout.weight_reading unit)) false member) }
+    ensures { (member : Option Value) → AreWeights member weights → result ≡ capped MOST_SAMPLES (column_of (read_cell (layout.weight_reading unit)) false member) }
 {
     let Weights { counts, times } = weights;
     match unit {
@@ -150,23 +150,25 @@ pub fn held_strings(alloc: Global, list: TextList) -> Result<HeldStrings, NoMemo
     Ok(HeldStrings { strings, fault })
 }
 
-/// The raw tables that threads share, of what was gathered of them.
-pub fn raw_shared(alloc: Global, tables: SharedTables) -> Result<RawShared, NoMemory>
-    ensures { IfOk result (λ raw. (ms : Members) → AreShared ms tables → raw ≡ kept.kept_shared (layout.raw_shared (Value.object ms))) }
+/// The raw tables that threads may share, over this list of strings; the list that was gathered plays no part.
+pub fn tables_over(alloc: Global, tables: SharedTables, strings: HeldStrings) -> RawShared
+    ensures { (ms : Members) (own : TextList) (texts : List (List ℕ)) (fault : Option ListFault)
+        → AreShared ms (record tables { strings = own }) → HoldsStrings texts fault strings
+        → result ≡ kept.kept_shared (layout.shared_over texts fault (Value.object ms)) }
 {
     let SharedTables {
-        strings,
+        strings: _gathered,
         resources,
         funcs,
         frames,
         stacks,
     } = tables;
-    let HeldStrings { strings, fault } = held_strings(alloc, strings)?;
+    let HeldStrings { strings, fault } = strings;
     let (has_resources, resources) = resource_columns(alloc, resources);
     let funcs = func_columns(alloc, funcs);
     let frames = frame_columns(alloc, frames);
     let stacks = stack_columns(alloc, stacks);
-    Ok(RawShared {
+    RawShared {
         strings,
         string_fault: fault,
         has_resources,
@@ -184,37 +186,32 @@ pub fn raw_shared(alloc: Global, tables: SharedTables) -> Result<RawShared, NoMe
         stack_frame: stacks.frame,
         stack_prefix: stacks.prefix,
         stack_length: stacks.length,
-    })
+    }
 }
 
-/// The raw thread of what was gathered of it, over this list of strings; its own list plays no part.
-pub fn raw_thread(
-    alloc: Global,
-    parts: ThreadParts,
-    strings: HeldStrings,
-) -> Result<RawThread, NoMemory>
-    ensures ranges { IfOk result (λ raw. AreRanges (length raw.marker_texts) raw.marker_ranges) }
-    ensures raw { IfOk result (λ raw. (ms : Members) (own : TextList) (texts : List (List ℕ)) (fault : Option ListFault) → AreThread ms (record parts { shared = record parts.shared { strings = own } }) → HoldsStrings texts fault strings → raw ≡ raw_over texts fault ms) }
+/// The raw tables that threads share, of what was gathered of them.
+pub fn raw_shared(alloc: Global, mut tables: SharedTables) -> Result<RawShared, NoMemory>
+    ensures { IfOk result (λ raw. (ms : Members) → AreShared ms tables → raw ≡ kept.kept_shared (layout.raw_shared (Value.object ms))) }
 {
-    let ThreadParts {
-        name,
-        shared,
-        samples,
-        markers,
-    } = parts;
-    let SharedTables {
-        strings: _own,
-        resources,
-        funcs,
-        frames,
-        stacks,
-    } = shared;
-    let HeldStrings { strings, fault } = strings;
+    let gathered = std::mem::replace(&mut tables.strings, TextList::absent(alloc));
+    let strings = held_strings(alloc, gathered)?;
+    Ok(tables_over(alloc, tables, strings))
+}
+
+/// The raw columns of a thread's own tables.
+pub fn raw_own(
+    alloc: Global,
+    name: Option<String>,
+    samples: Found<SampleTable>,
+    markers: Found<MarkerTable>,
+) -> Result<RawOwn, NoMemory>
+    ensures ranges { IfOk result (λ raw. AreRanges (length raw.marker_texts) raw.marker_ranges) }
+    ensures own { IfOk result (λ raw. (ms : Members) → option_map string_bytes name ≡ string_of (last_named (codes "name") ms)
+        → IsFoundIn AreSampleColumns (last_named (codes "samples") ms) samples
+        → IsFoundIn AreMarkerColumns (last_named (codes "markers") ms) markers
+        → raw ≡ kept.kept_own (Value.object ms)) }
+{
     let name = thread_name(alloc, name)?;
-    let (has_resources, resources) = resource_columns(alloc, resources);
-    let funcs = func_columns(alloc, funcs);
-    let frames = frame_columns(alloc, frames);
-    let stacks = stack_columns(alloc, stacks);
     let SampleTable {
         stack,
         time,
@@ -226,38 +223,13 @@ pub fn raw_thread(
     let (sample_time, deltas) = time_column(time, time_deltas);
     let sample_weight = weight_column(weights, unit);
     let (has_markers, markers) = marker_columns(alloc, markers);
-    let MarkerTable {
-        phase,
-        name: marker_name,
-        start_time,
-        end_time,
-        data,
-        length: marker_length,
-    } = markers;
     let MarkerData {
         column: marker_data,
-        texts,
-        ranges,
-    } = data;
-    Ok(RawThread {
+        texts: marker_texts,
+        ranges: marker_ranges,
+    } = markers.data;
+    Ok(RawOwn {
         name,
-        strings,
-        string_fault: fault,
-        has_resources,
-        resource_name: resources.name,
-        resource_length: resources.length,
-        func_name: funcs.name,
-        func_is_js: funcs.is_js,
-        func_relevant_for_js: funcs.relevant_for_js,
-        func_resource: funcs.resource,
-        func_file_name: funcs.file_name,
-        func_length: funcs.length,
-        frame_func: frames.func,
-        frame_category: frames.category,
-        frame_length: frames.length,
-        stack_frame: stacks.frame,
-        stack_prefix: stacks.prefix,
-        stack_length: stacks.length,
         sample_stack: stack,
         sample_time,
         deltas,
@@ -265,14 +237,14 @@ pub fn raw_thread(
         sample_weight,
         sample_length,
         has_markers,
-        marker_phase: phase,
-        marker_name,
-        marker_start: start_time,
-        marker_end: end_time,
+        marker_phase: markers.phase,
+        marker_name: markers.name,
+        marker_start: markers.start_time,
+        marker_end: markers.end_time,
         marker_data,
-        marker_length,
-        marker_texts: texts,
-        marker_ranges: ranges,
+        marker_length: markers.length,
+        marker_texts,
+        marker_ranges,
     })
 }
 

@@ -8,8 +8,8 @@ ghost use Rattle.sha2.specs.Sha256.{sha256};
 use crate::ReadRefusal;
 use crate::building::profile_of;
 use crate::parts::ProfileParts;
-pub use prof_gather::Digest;
 use prof_gather::read_object;
+pub use prof_io::Digest;
 use prof_io::Source;
 use prof_tables::Profile;
 use std::alloc::Global;
@@ -41,7 +41,7 @@ pub fn read_profile<S: Source>(
     ensures digest { IfSome (S.left src.old) (λ text. IfOk result (λ r. r.1 ≡ sha256 text)) }
     ensures form { IfOk result (λ r. r.2 ≡ Form.Processed) }
 {
-    let (parts, digest) = read_object::<ProfileParts, S>(alloc, src)?;
+    let (parts, digest) = read_object(alloc, src, ProfileParts::none(alloc))?;
     let profile = profile_of(alloc, parts)?;
     Ok((profile, digest, Form::Processed))
 }

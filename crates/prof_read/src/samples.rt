@@ -8,13 +8,12 @@ ghost use Rattle.prof_read.specs.Gathered.{AreWeights};
 ghost use Rattle.prof_read.specs.SampleNames.{sample_name};
 ghost use Rattle.prof_gather.specs.Feeding.{IsWithin, IsBegun, Passes, Finishes, Refuses, in_member};
 
-use crate::cells::cell;
-use crate::columns::{MOST_SAMPLES, add_cell, column, empty_column, state_of, table_length};
+use prof_column::{add_cell, cell, column, empty_column, state_of, table_length};
 use prof_gather::{Feed, FromItems, FromMembers, GatherRefusal, Start, array, skip_behind};
 use prof_io::Source;
 use prof_json::Event;
 use prof_layout::Reading;
-use prof_tables::{RawColumn, State, TableLength, Unit};
+use prof_raw::{MOST_SAMPLES, RawColumn, State, TableLength, Unit};
 use std::alloc::Global;
 
 /// The weights of samples, read as counts and as milliseconds: which of the two counts is known by their type.
@@ -132,12 +131,14 @@ fn sample_member(name: &str) -> Option<SampleMember>
     }
 }
 
-impl FromMembers for SampleTable {
+impl SampleTable {
+    ghost use Rattle.prof_grammar.specs.Value.{no_members};
     ghost use Rattle.prof_read.specs.Gathered.{AreSampleColumns};
 
-    ghost is = { λ ms t. AreSampleColumns ms t };
-
-    fn none(alloc: Global) -> Self {
+    /// What is gathered of no member.
+    pub fn none(alloc: Global) -> Self
+        ensures { AreSampleColumns no_members result }
+    {
         SampleTable {
             stack: empty_column(alloc, State::Absent),
             time: empty_column(alloc, State::Absent),
@@ -150,6 +151,12 @@ impl FromMembers for SampleTable {
             length: TableLength::Unsaid,
         }
     }
+}
+
+impl FromMembers for SampleTable {
+    ghost use Rattle.prof_read.specs.Gathered.{AreSampleColumns};
+
+    ghost is = { λ ms t. AreSampleColumns ms t };
 
     fn take_member<R: Source, W: Start>(
         &mut self,

@@ -4,13 +4,11 @@ ghost use Rattle.prof_grammar.specs.Value.{same_text};
 ghost use Rattle.prof_read.specs.Named.{resource_member_name, func_member_name, frame_member_name, stack_member_name};
 ghost use Rattle.prof_read.specs.Names.{member_name};
 
-use crate::columns::{MOST_FUNCS, MOST_ROWS, column, empty_column, table_length};
-use crate::lists::TextList;
-use crate::texts::text_list;
+use prof_column::{TextList, column, empty_column, table_length, text_list};
 use prof_gather::{Feed, Found, FromMembers, GatherRefusal, Start, object};
 use prof_io::Source;
 use prof_layout::Reading;
-use prof_tables::{RawColumn, State, TableLength};
+use prof_raw::{MOST_FUNCS, MOST_ROWS, RawColumn, State, TableLength};
 use std::alloc::Global;
 
 /// The columns of `resourceTable`.
@@ -36,17 +34,25 @@ fn resource_member(name: &str) -> Option<ResourceMember>
     }
 }
 
-impl FromMembers for ResourceTable {
+impl ResourceTable {
+    ghost use Rattle.prof_grammar.specs.Value.{no_members};
     ghost use Rattle.prof_read.specs.Gathered.{AreResourceColumns};
 
-    ghost is = { λ ms t. AreResourceColumns ms t };
-
-    fn none(alloc: Global) -> Self {
+    /// What is gathered of no member.
+    pub fn none(alloc: Global) -> Self
+        ensures { AreResourceColumns no_members result }
+    {
         ResourceTable {
             name: empty_column(alloc, State::Absent),
             length: TableLength::Unsaid,
         }
     }
+}
+
+impl FromMembers for ResourceTable {
+    ghost use Rattle.prof_read.specs.Gathered.{AreResourceColumns};
+
+    ghost is = { λ ms t. AreResourceColumns ms t };
 
     fn take_member<R: Source, W: Start>(
         &mut self,
@@ -99,12 +105,14 @@ fn func_member(name: &str) -> Option<FuncMember>
     }
 }
 
-impl FromMembers for FuncTable {
+impl FuncTable {
+    ghost use Rattle.prof_grammar.specs.Value.{no_members};
     ghost use Rattle.prof_read.specs.Gathered.{AreFuncColumns};
 
-    ghost is = { λ ms t. AreFuncColumns ms t };
-
-    fn none(alloc: Global) -> Self {
+    /// What is gathered of no member.
+    pub fn none(alloc: Global) -> Self
+        ensures { AreFuncColumns no_members result }
+    {
         FuncTable {
             name: empty_column(alloc, State::Absent),
             is_js: empty_column(alloc, State::Absent),
@@ -114,6 +122,12 @@ impl FromMembers for FuncTable {
             length: TableLength::Unsaid,
         }
     }
+}
+
+impl FromMembers for FuncTable {
+    ghost use Rattle.prof_read.specs.Gathered.{AreFuncColumns};
+
+    ghost is = { λ ms t. AreFuncColumns ms t };
 
     fn take_member<R: Source, W: Start>(
         &mut self,
@@ -169,18 +183,26 @@ fn frame_member(name: &str) -> Option<FrameMember>
     }
 }
 
-impl FromMembers for FrameTable {
+impl FrameTable {
+    ghost use Rattle.prof_grammar.specs.Value.{no_members};
     ghost use Rattle.prof_read.specs.Gathered.{AreFrameColumns};
 
-    ghost is = { λ ms t. AreFrameColumns ms t };
-
-    fn none(alloc: Global) -> Self {
+    /// What is gathered of no member.
+    pub fn none(alloc: Global) -> Self
+        ensures { AreFrameColumns no_members result }
+    {
         FrameTable {
             func: empty_column(alloc, State::Absent),
             category: empty_column(alloc, State::Absent),
             length: TableLength::Unsaid,
         }
     }
+}
+
+impl FromMembers for FrameTable {
+    ghost use Rattle.prof_read.specs.Gathered.{AreFrameColumns};
+
+    ghost is = { λ ms t. AreFrameColumns ms t };
 
     fn take_member<R: Source, W: Start>(
         &mut self,
@@ -227,18 +249,26 @@ fn stack_member(name: &str) -> Option<StackMember>
     }
 }
 
-impl FromMembers for StackTable {
+impl StackTable {
+    ghost use Rattle.prof_grammar.specs.Value.{no_members};
     ghost use Rattle.prof_read.specs.Gathered.{AreStackColumns};
 
-    ghost is = { λ ms t. AreStackColumns ms t };
-
-    fn none(alloc: Global) -> Self {
+    /// What is gathered of no member.
+    pub fn none(alloc: Global) -> Self
+        ensures { AreStackColumns no_members result }
+    {
         StackTable {
             frame: empty_column(alloc, State::Absent),
             prefix: empty_column(alloc, State::Absent),
             length: TableLength::Unsaid,
         }
     }
+}
+
+impl FromMembers for StackTable {
+    ghost use Rattle.prof_read.specs.Gathered.{AreStackColumns};
+
+    ghost is = { λ ms t. AreStackColumns ms t };
 
     fn take_member<R: Source, W: Start>(
         &mut self,
@@ -315,10 +345,14 @@ impl SharedTables {
     {
         match member {
             SharedMember::Strings => self.strings = text_list(alloc, feed)?,
-            SharedMember::Resources => self.resources = object(alloc, feed)?,
-            SharedMember::Funcs => self.funcs = object(alloc, feed)?,
-            SharedMember::Frames => self.frames = object(alloc, feed)?,
-            SharedMember::Stacks => self.stacks = object(alloc, feed)?,
+            SharedMember::Resources => self.resources = object(
+                alloc,
+                feed,
+                ResourceTable::none(alloc),
+            )?,
+            SharedMember::Funcs => self.funcs = object(alloc, feed, FuncTable::none(alloc))?,
+            SharedMember::Frames => self.frames = object(alloc, feed, FrameTable::none(alloc))?,
+            SharedMember::Stacks => self.stacks = object(alloc, feed, StackTable::none(alloc))?,
         }
         Ok(())
     }
@@ -334,12 +368,14 @@ impl SharedTables {
     }
 }
 
-impl FromMembers for SharedTables {
+impl SharedTables {
+    ghost use Rattle.prof_grammar.specs.Value.{no_members};
     ghost use Rattle.prof_read.specs.Gathered.{AreShared};
 
-    ghost is = { λ ms t. AreShared ms t };
-
-    fn none(alloc: Global) -> Self {
+    /// What is gathered of no member.
+    pub fn none(alloc: Global) -> Self
+        ensures { AreShared no_members result }
+    {
         SharedTables {
             strings: TextList::absent(alloc),
             resources: Found::Absent,
@@ -348,6 +384,12 @@ impl FromMembers for SharedTables {
             stacks: Found::Absent,
         }
     }
+}
+
+impl FromMembers for SharedTables {
+    ghost use Rattle.prof_read.specs.Gathered.{AreShared};
+
+    ghost is = { λ ms t. AreShared ms t };
 
     fn take_member<R: Source, W: Start>(
         &mut self,

@@ -2,28 +2,23 @@
 ghost use Rattle.std.specs.Prelude.{◌≡◌, false, ◌≤◌, OnOk, IfOk, IfErr, IfSome, IfNone, Option, Some, None, vec_len};
 ghost use Rattle.prof_grammar.specs.Value.{Value, same_text};
 ghost use Rattle.prof_layout.specs.Lists.{is_object, needed_list_fault};
-ghost use Rattle.prof_layout.specs.Profile.{most_threads};
 ghost use Rattle.prof_gather.specs.Taking.{Reads};
 ghost use Rattle.prof_read.specs.Gathered.{IsThreadList};
 ghost use Rattle.prof_read.specs.Named.{thread_member_name};
 ghost use Rattle.prof_gather.specs.Feeding.{IsWithin, IsBegun, Passes, Finishes, Refuses, in_member};
 
-use crate::columns::state_of;
 use crate::lists::ThreadList;
 use crate::markers::MarkerTable;
 use crate::samples::SampleTable;
 use crate::shared::{SharedMember, SharedTables, shared_member};
-use crate::texts::{text, whole};
+use prof_column::{state_of, text, whole};
 use prof_gather::{
     Feed, Found, FromItems, FromMembers, GatherRefusal, Start, array, members, object, skip_behind,
 };
 use prof_io::Source;
 use prof_json::Event;
-use prof_tables::{ListFault, Rule, State};
+use prof_raw::{ListFault, MOST_THREADS, Rule, State};
 use std::alloc::Global;
-
-/// The most threads of a profile.
-const MOST_THREADS: u32 = 1 << 10;
 
 /// What is gathered of a thread.
 #[derive(Drop)]
@@ -56,12 +51,14 @@ fn thread_member(name: &str) -> Option<ThreadMember>
     }
 }
 
-impl FromMembers for ThreadParts {
+impl ThreadParts {
+    ghost use Rattle.prof_grammar.specs.Value.{no_members};
     ghost use Rattle.prof_read.specs.Gathered.{AreThread};
 
-    ghost is = { λ ms t. AreThread ms t };
-
-    fn none(alloc: Global) -> Self {
+    /// What is gathered of no member.
+    pub fn none(alloc: Global) -> Self
+        ensures { AreThread no_members result }
+    {
         ThreadParts {
             name: None,
             shared: SharedTables::none(alloc),
@@ -69,6 +66,12 @@ impl FromMembers for ThreadParts {
             markers: Found::Absent,
         }
     }
+}
+
+impl FromMembers for ThreadParts {
+    ghost use Rattle.prof_read.specs.Gathered.{AreThread};
+
+    ghost is = { λ ms t. AreThread ms t };
 
     fn take_member<R: Source, W: Start>(
         &mut self,
@@ -77,8 +80,16 @@ impl FromMembers for ThreadParts {
     ) -> Result<(), GatherRefusal> {
         match thread_member(feed.name()) {
             Some(ThreadMember::Name) => self.name = text(alloc, feed)?,
-            Some(ThreadMember::Samples) => self.samples = object(alloc, feed)?,
-            Some(ThreadMember::Markers) => self.markers = object(alloc, feed)?,
+            Some(ThreadMember::Samples) => self.samples = object(
+                alloc,
+                feed,
+                SampleTable::none(alloc),
+            )?,
+            Some(ThreadMember::Markers) => self.markers = object(
+                alloc,
+                feed,
+                MarkerTable::none(alloc),
+            )?,
             Some(ThreadMember::Shared(member)) => self.shared.take(alloc, feed, member)?,
             None => feed.skip_member(alloc)?,
         }
@@ -100,7 +111,7 @@ impl ThreadList {
     /// The first rule that the list breaks.
     pub fn fault(&self) -> Option<ListFault>
         ensures few { IfNone result (vec_len self.now.threads ≤ 1024) }
-        ensures is { (member : Option Value) → IsThreadList member self.now → result ≡ needed_list_fault is_object most_threads member }
+        ensures is { (member : Option Value) → IsThreadList member self.now → result ≡ needed_list_fault is_object MOST_THREADS member }
     {
         match self.state {
             State::Absent => Some(whole(Rule::Missing)),
@@ -132,7 +143,7 @@ impl FromItems for ThreadList {
         }
         match first {
             Event::ObjectStart => {
-                let thread = members(alloc, feed)?;
+                let thread = members(alloc, feed, ThreadParts::none(alloc))?;
                 self.threads.push(thread)?;
                 Ok(())
             }

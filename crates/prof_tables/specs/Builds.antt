@@ -1,6 +1,6 @@
 -- What a build answers.
 use Rattle.std.specs.Prelude.{◌≡◌, Option, None, Some, Result, Ok, Err}
-use Rattle.prof_tables.specs.declared.rule.Broken.{Broken}
+use Rattle.prof_raw.specs.declared.rule.Broken.{Broken}
 use Rattle.prof_tables.specs.declared.refusal.BuildRefusal.{BuildRefusal}
 use Rattle.prof_tables.specs.declared.refusal.BuildRefusal.TheVariants as refusal
 

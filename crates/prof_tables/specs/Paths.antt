@@ -12,7 +12,8 @@ step_of row = record { func = row.func; category = row.category }
 abbrev pub path_within : List StackRow → ℕ → Option ℕ → List Step
 path_within rows zero stack = []
 path_within rows (suc n) None = []
-path_within rows (suc n) (Some r) = option_map_or (λ (row : StackRow). path_within rows n row.prefix ++ step_of row ∷ []) (slice_get rows r) []
+path_within rows (suc n) (Some r) = option_map_or
+    (λ (row : StackRow). path_within rows n row.prefix ++ step_of row ∷ []) (slice_get rows r) []
 
 -- the path of a stack: that of its row's prefix, and then its row's step
 abbrev pub path : List StackRow → Option ℕ → List Step

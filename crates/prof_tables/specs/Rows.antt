@@ -1,43 +1,32 @@
 -- The rows that checked columns stand for.
-use Rattle.std.specs.Prelude.{◌≡◌, ℕ, zero, suc, ◌<◌, ℤ, pos, negsuc, List, [], ◌∷◌, ◌++◌, Bool, true, false, if◌then◌else◌, Option, None, Some, length, unwrap_or, slice_get}
-use Rattle.prof_tables.specs.declared.raw.State.{State}
-use Rattle.prof_tables.specs.declared.raw.State.TheVariants.{Absent, NotArray, Array}
+use Rattle.std.specs.Prelude.{ℕ, zero, suc, List, [], ◌∷◌, ◌++◌, if◌then◌else◌, Option, length, unwrap_or, slice_get}
 use Rattle.prof_tables.specs.declared.rows.FrameRow.{FrameRow}
 use Rattle.prof_tables.specs.declared.rows.StackRow.{StackRow}
 use Rattle.prof_tables.specs.declared.rows.SampleRow.{SampleRow}
-use Rattle.prof_tables.specs.declared.rows.Unit.{Unit as WeightUnit}
-use Rattle.prof_tables.specs.declared.rows.Unit.TheVariants as unit
+use Rattle.prof_raw.specs.declared.raw.Unit.{Unit as WeightUnit}
+use Rattle.prof_raw.specs.declared.raw.Unit.TheVariants as unit
 use Rattle.prof_tables.specs.declared.markers.RawMarker.{RawMarker}
-use Rattle.prof_tables.specs.Cells.{Cells, SharedCells, OwnCells, cell, cell_at}
+use Rattle.prof_raw.specs.Cells.{SharedCells, OwnCells, cell}
 use Rattle.prof_tables.specs.Threads.{Func, MarkerRows, SharedTables, ThreadTables}
 use Rattle.prof_tables.specs.Frames.{stack_after}
-use Rattle.prof_tables.specs.Moments.{index_of, number_of, sum_below}
-use Rattle.prof_tables.specs.Checks.{resource_count}
-
--- null and -1 stand for none
-abbrev pub index_or_none : Option ℤ → Option ℕ
-index_or_none (Some (pos n)) = Some n
-index_or_none (Some (negsuc n)) = None
-index_or_none None = None
-
--- 1 is true; null and 0 are false
-abbrev pub truth_of : Option ℤ → Bool
-truth_of (Some (pos zero)) = false
-truth_of (Some (pos (suc n))) = true
-truth_of (Some (negsuc n)) = true
-truth_of None = false
+use Rattle.prof_raw.specs.CellValues.{index_of, index_or_none, truth_of, weight_in}
+use Rattle.prof_raw.specs.Moments.{time_of}
+use Rattle.prof_raw.specs.Checks.{resource_count}
 
 -- so many rows, each by its number
 abbrev pub rows_of : {A : Type 0} → (ℕ → A) → ℕ → List A
 rows_of row zero = []
 rows_of row (suc n) = rows_of row n ++ row n ∷ []
 
+-- the place of a resource's name
 abbrev pub resource_at : SharedCells → ℕ → ℕ
 resource_at raw r = index_of (cell raw.resource_name r)
 
+-- the resources
 unfoldable pub resources_of : SharedCells → List ℕ
 resources_of raw = rows_of (resource_at raw) (resource_count raw)
 
+-- a function
 abbrev pub func_at : SharedCells → ℕ → Func
 func_at raw f = record {
   name = index_of (cell raw.func_name f);
@@ -47,12 +36,18 @@ func_at raw f = record {
   file = index_or_none (cell raw.func_file_name f);
 }
 
+-- the functions
 unfoldable pub funcs_of : SharedCells → List Func
 funcs_of raw = rows_of (func_at raw) (length raw.func_name.cells)
 
+-- a frame
 abbrev pub frame_at : SharedCells → ℕ → FrameRow
-frame_at raw j = record { func = index_of (cell raw.frame_func j); category = index_or_none (cell raw.frame_category j) }
+frame_at raw j = record {
+  func = index_of (cell raw.frame_func j);
+  category = index_or_none (cell raw.frame_category j);
+}
 
+-- the frames
 unfoldable pub frames_of : SharedCells → List FrameRow
 frames_of raw = rows_of (frame_at raw) (length raw.frame_func.cells)
 
@@ -60,6 +55,7 @@ frames_of raw = rows_of (frame_at raw) (length raw.frame_func.cells)
 abbrev pub stack_frame_at : SharedCells → ℕ → ℕ
 stack_frame_at raw i = index_of (cell raw.stack_frame i)
 
+-- the frame of each stack row
 unfoldable pub stack_frames_of : SharedCells → List ℕ
 stack_frames_of raw = rows_of (stack_frame_at raw) (length raw.stack_frame.cells)
 
@@ -68,8 +64,10 @@ unfoldable pub stacks_below : ℕ → SharedCells → ℕ → List StackRow
 stacks_below default raw zero = []
 stacks_below default raw (suc n) =
     let rows = stacks_below default raw n in
-    rows ++ stack_after default rows (index_or_none (cell raw.stack_prefix n)) (frame_at raw (stack_frame_at raw n)) ∷ []
+    let prefix = index_or_none (cell raw.stack_prefix n) in
+    rows ++ stack_after default rows prefix (frame_at raw (stack_frame_at raw n)) ∷ []
 
+-- the stack rows
 unfoldable pub stacks_of : ℕ → SharedCells → List StackRow
 stacks_of default raw = stacks_below default raw (length raw.stack_frame.cells)
 
@@ -86,17 +84,7 @@ shared_of categories default raw = record {
   default = default;
 }
 
--- a sample's time: its own cell, or the sum of the deltas up to its own
-abbrev pub time_of : Bool → Cells → ℕ → ℤ
-time_of false c k = number_of (cell_at c.cells k)
-time_of true c k = sum_below c.cells (suc k)
-
--- without a weight column each sample weighs 1
-abbrev pub weight_in : State → List (Option ℤ) → ℕ → ℤ
-weight_in Absent cells k = pos 1
-weight_in NotArray cells k = pos 1
-weight_in Array cells k = number_of (cell_at cells k)
-
+-- a sample
 abbrev pub sample_at : OwnCells → ℕ → SampleRow
 sample_at raw k = record {
   stack = index_or_none (cell raw.sample_stack k);
@@ -104,6 +92,7 @@ sample_at raw k = record {
   weight = weight_in raw.sample_weight.state raw.sample_weight.cells k;
 }
 
+-- the samples
 unfoldable pub samples_of : OwnCells → List SampleRow
 samples_of raw = rows_of (sample_at raw) (length raw.sample_stack.cells)
 
@@ -117,18 +106,28 @@ marker_at raw m = record {
   texts = unwrap_or (slice_get raw.marker_ranges m) (0, 0);
 }
 
+-- the markers, of which there are none without their table
 unfoldable pub marker_rows_of : OwnCells → List RawMarker
 marker_rows_of raw = if raw.has_markers then rows_of (marker_at raw) (length raw.marker_phase.cells) else []
 
+-- and their texts
 abbrev pub marker_texts_of : OwnCells → List (List ℕ)
 marker_texts_of raw = if raw.has_markers then raw.marker_texts else []
 
+-- the markers with their texts
 abbrev pub markers_of : OwnCells → MarkerRows
 markers_of raw = record { rows = marker_rows_of raw; texts = marker_texts_of raw }
 
+-- the unit of the weights
 abbrev pub unit_of : Option WeightUnit → WeightUnit
 unit_of u = unwrap_or u unit.Samples
 
 -- the thread that its own columns stand for, over the tables that it shares
 abbrev pub thread_of : SharedTables → OwnCells → ThreadTables
-thread_of shared raw = record { shared = shared; name = raw.name; unit = unit_of raw.unit; samples = samples_of raw; markers = markers_of raw }
+thread_of shared raw = record {
+  shared = shared;
+  name = raw.name;
+  unit = unit_of raw.unit;
+  samples = samples_of raw;
+  markers = markers_of raw;
+}

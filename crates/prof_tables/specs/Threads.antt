@@ -1,10 +1,10 @@
 -- A thread, and the tables that threads may share, as plain lists.
-use Rattle.std.specs.Prelude.{◌≡◌, ℕ, ◌-◌, Bool, List, [], length, Option, Some, None, slice_get, slice_index_or}
+use Rattle.std.specs.Prelude.{ℕ, ◌-◌, Bool, List, [], length, Option, Some, slice_get, slice_index_or}
 use Rattle.std.specs.Option.{option_map_or, option_map, option_and_then}
 use Rattle.prof_tables.specs.declared.rows.FrameRow.{FrameRow}
 use Rattle.prof_tables.specs.declared.rows.StackRow.{StackRow}
 use Rattle.prof_tables.specs.declared.rows.SampleRow.{SampleRow}
-use Rattle.prof_tables.specs.declared.rows.Unit.{Unit as WeightUnit}
+use Rattle.prof_raw.specs.declared.raw.Unit.{Unit as WeightUnit}
 use Rattle.prof_tables.specs.declared.markers.RawMarker.{RawMarker}
 
 -- a function: places of its name and file in the strings, its flags, its resource
@@ -39,18 +39,24 @@ pub record ThreadTables : Type 0 where
   pub samples : List SampleRow
   pub markers : MarkerRows
 
+-- the text at a place of the strings
 abbrev pub text_at : SharedTables → ℕ → List ℕ
 text_at t i = slice_index_or t.strings i []
 
 -- the numbers from the functions' count on are the collapsed resources
 abbrev pub resource_of : SharedTables → ℕ → Option ℕ
-resource_of t f = option_map_or (λ (func : Func). func.resource) (slice_get t.funcs f) (Some (f - length t.funcs))
+resource_of t f =
+    option_map_or (λ (func : Func). func.resource) (slice_get t.funcs f) (Some (f - length t.funcs))
 
+-- the name of a resource
 abbrev pub resource_name : SharedTables → ℕ → List ℕ
 resource_name t r = text_at t (slice_index_or t.resources r 0)
 
+-- the name of a function, and of the resource of a collapsed one
 abbrev pub func_name : SharedTables → ℕ → List ℕ
-func_name t f = option_map_or (λ (func : Func). text_at t func.name) (slice_get t.funcs f) (resource_name t (f - length t.funcs))
+func_name t f = option_map_or
+    (λ (func : Func). text_at t func.name) (slice_get t.funcs f) (resource_name t (f - length t.funcs))
 
+-- the name of a function's file
 abbrev pub file_name : SharedTables → ℕ → Option (List ℕ)
 file_name t f = option_and_then (λ (func : Func). option_map (text_at t) func.file) (slice_get t.funcs f)

@@ -5,6 +5,7 @@ use crate::index::MaybeIndex;
 use crate::rows::{FrameRow, StackRow};
 use std::marker::Model;
 
+/// A function.
 #[derive(Drop)]
 pub(crate) struct HeldFunc {
     pub(crate) name: u32,
@@ -19,7 +20,13 @@ impl Model for HeldFunc {
 
     ghost Value = { Func };
 
-    ghost view = { λ f. record { name = f.name; is_js = f.is_js; relevant_for_js = f.relevant_for_js; resource = f.resource; file = f.file } };
+    ghost view = { λ f. record {
+      name = f.name;
+      is_js = f.is_js;
+      relevant_for_js = f.relevant_for_js;
+      resource = f.resource;
+      file = f.file;
+    } };
 }
 
 impl HeldFunc {
@@ -32,7 +39,13 @@ impl HeldFunc {
     ) -> Self
         requires resource { IfSome resource (λ n. n < 4294967295) }
         requires file { IfSome file (λ n. n < 4294967295) }
-        ensures { result ≡ record { name = name; is_js = is_js; relevant_for_js = relevant_for_js; resource = resource; file = file } }
+        ensures { result ≡ record {
+          name = name;
+          is_js = is_js;
+          relevant_for_js = relevant_for_js;
+          resource = resource;
+          file = file;
+        } }
     {
         HeldFunc {
             name,
@@ -44,6 +57,7 @@ impl HeldFunc {
     }
 }
 
+/// A frame.
 #[derive(Drop)]
 pub(crate) struct HeldFrame {
     func: u32,
@@ -79,6 +93,7 @@ impl HeldFrame {
     }
 }
 
+/// A stack row.
 #[derive(Drop)]
 pub(crate) struct HeldStack {
     prefix: MaybeIndex,

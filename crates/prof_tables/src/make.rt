@@ -1,16 +1,16 @@
 //! The rows of the tables that threads may share, made of checked columns.
-ghost use Rattle.std.specs.Prelude.{◌≡◌, ◌<◌, ◌≤◌, length, IfOk, IfSome, All, Some, slice_get};
-ghost use Rattle.prof_tables.specs.Checks.{resource_count};
+ghost use Rattle.std.specs.Prelude.{◌≡◌, ℕ, ◌<◌, ◌^◌, length, IfOk, IfSome, All, Some, slice_get};
+ghost use Rattle.prof_raw.specs.Checks.{resource_count};
 ghost use Rattle.prof_tables.specs.Frames.{category_before, stack_after};
 ghost use Rattle.prof_tables.specs.Paths.{PrefixesBelow};
 ghost use Rattle.prof_tables.specs.Rows.{func_at, resources_of, funcs_of, frames_of, stacks_of, stack_frames_of};
-ghost use Rattle.prof_tables.specs.Fits.{FitResources, FitFuncs, FitFrames, FitStacks};
-ghost use Rattle.prof_tables.specs.Ties.{IsFunc, IsFrame, IsStackRow};
+ghost use Rattle.prof_raw.specs.Fits.{FitResources, FitFuncs, FitFrames, FitStacks};
+ghost use Rattle.prof_tables.specs.Ties.{IsFunc, IsFrame};
 
-use crate::cells::{cell, index, maybe_index, minus_or_index, prefix, truth};
 use crate::held::{HeldFrame, HeldFunc, HeldStack};
-use crate::raw::RawShared;
 use crate::rows::{FrameRow, StackRow};
+use prof_raw::RawShared;
+use prof_raw::cells::{cell, index, maybe_index, minus_or_index, prefix, truth};
 use std::alloc::{AllocError, Global};
 
 /// The places of the resources' names.
@@ -53,7 +53,8 @@ pub(crate) fn funcs_of(alloc: Global, raw: &RawShared) -> Result<Vec<HeldFunc>, 
     requires resources { FitResources raw.now }
     requires funcs { FitFuncs raw.now }
     ensures rows { IfOk result (λ v. v.items ≡ funcs_of raw.now) }
-    ensures tied { IfOk result (λ v. All (IsFunc (length raw.now.strings) (resource_count raw.now)) v.items) }
+    ensures tied { IfOk result (λ v.
+        All (IsFunc (length raw.now.strings) (resource_count raw.now)) v.items) }
     ensures count { IfOk result (λ v. length v.items ≡ length raw.now.func_name.cells) }
 {
     let strings = raw.strings.count();
@@ -76,7 +77,8 @@ pub(crate) fn frames_of(
     requires funcs { FitFuncs raw.now }
     requires frames { FitFrames categories raw.now }
     ensures rows { IfOk result (λ v. v.items ≡ frames_of raw.now) }
-    ensures tied { IfOk result (λ v. All (IsFrame (length raw.now.func_name.cells) categories) v.items) }
+    ensures tied { IfOk result (λ v.
+        All (IsFrame (length raw.now.func_name.cells) categories) v.items) }
     ensures count { IfOk result (λ v. length v.items ≡ length raw.now.frame_func.cells) }
 {
     let funcs = raw.func_name.values.len() as u32;
@@ -93,7 +95,7 @@ pub(crate) fn frames_of(
 /// The frames of the stack rows.
 #[tactic(auto, unfolding(crate::specs::Rows::stack_frames_of))]
 pub(crate) fn stack_frames_of(alloc: Global, raw: &RawShared) -> Result<Vec<u32>, AllocError>
-    requires frames { length raw.now.frame_func.cells ≤ 4194304 }
+    requires frames { length raw.now.frame_func.cells < 2 ^ 32 }
     requires stacks { FitStacks raw.now }
     ensures rows { IfOk result (λ v. v.items ≡ stack_frames_of raw.now) }
 {
@@ -107,16 +109,9 @@ pub(crate) fn stack_frames_of(alloc: Global, raw: &RawShared) -> Result<Vec<u32>
 }
 
 /// The category of the row before, where there is one.
-fn category_before(
-    funcs: u32,
-    categories: u32,
-    rows: &[HeldStack],
-    prefix: Option<u32>,
-) -> Option<u32>
-    requires inside { IfSome prefix (λ p. p < length rows.now) }
-    requires rows { All (IsStackRow funcs categories) rows.now }
-    ensures value { result ≡ category_before rows.now prefix }
-    ensures below { IfSome result (λ c. c < categories) }
+fn category_before(rows: &[HeldStack], prefix: Option<u32>) -> Option<u32>
+    requires { IfSome prefix (λ p. p < length rows.now) }
+    ensures { result ≡ category_before rows.now prefix }
 {
     match prefix {
         Some(p) => Some(rows[p as usize].row().category),
@@ -125,22 +120,11 @@ fn category_before(
 }
 
 /// A stack row after these rows.
-fn stack_after(
-    default: u32,
-    funcs: u32,
-    categories: u32,
-    rows: &[HeldStack],
-    prefix: Option<u32>,
-    frame: FrameRow,
-) -> StackRow
-    requires inside { IfSome prefix (λ p. p < length rows.now) }
-    requires rows { All (IsStackRow funcs categories) rows.now }
-    requires frame { IsFrame funcs categories frame }
-    requires default { default < categories }
-    ensures row { result ≡ stack_after default rows.now prefix frame }
-    ensures tied { IsStackRow funcs categories result }
+fn stack_after(default: u32, rows: &[HeldStack], prefix: Option<u32>, frame: FrameRow) -> StackRow
+    requires { IfSome prefix (λ p. p < length rows.now) }
+    ensures { result ≡ stack_after default rows.now prefix frame }
 {
-    let before = category_before(funcs, categories, rows, prefix);
+    let before = category_before(rows, prefix);
     StackRow {
         prefix,
         func: frame.func,
@@ -148,11 +132,9 @@ fn stack_after(
     }
 }
 
-fn frame_at(funcs: u32, categories: u32, frames: &[HeldFrame], j: u32) -> FrameRow
-    requires inside { j < length frames.now }
-    requires tied { All (IsFrame funcs categories) frames.now }
-    ensures row { slice_get frames.now j ≡ Some result }
-    ensures tied { IsFrame funcs categories result }
+fn frame_at(frames: &[HeldFrame], j: u32) -> FrameRow
+    requires { j < length frames.now }
+    ensures { slice_get frames.now j ≡ Some result }
 {
     frames[j as usize].row()
 }
@@ -162,30 +144,24 @@ fn frame_at(funcs: u32, categories: u32, frames: &[HeldFrame], j: u32) -> FrameR
 pub(crate) fn stacks_of(
     alloc: Global,
     default: u32,
-    categories: u32,
     frames: &[HeldFrame],
     raw: &RawShared,
 ) -> Result<Vec<HeldStack>, AllocError>
-    requires default { default < categories }
     requires frames { frames.now ≡ frames_of raw.now }
-    requires tied { All (IsFrame (length raw.now.func_name.cells) categories) frames.now }
-    requires few_funcs { length raw.now.func_name.cells ≤ 1048576 }
-    requires few_frames { length raw.now.frame_func.cells ≤ 4194304 }
+    requires few_frames { length raw.now.frame_func.cells < 2 ^ 32 }
     requires stacks { FitStacks raw.now }
     ensures rows { IfOk result (λ v. v.items ≡ stacks_of default raw.now) }
     ensures below { IfOk result (λ v. PrefixesBelow v.items) }
-    ensures steps { IfOk result (λ v. All (IsStackRow (length raw.now.func_name.cells) categories) v.items) }
     ensures count { IfOk result (λ v. length v.items ≡ length raw.now.stack_frame.cells) }
 {
-    let funcs = raw.func_name.values.len() as u32;
     let frame_count = raw.frame_func.values.len() as u32;
     let count = raw.stack_frame.values.len();
     let mut rows = Vec::with_capacity(alloc, count)?;
     for i in 0..count {
         let j = index(frame_count, cell(&raw.stack_frame, i));
-        let frame = frame_at(funcs, categories, frames, j);
+        let frame = frame_at(frames, j);
         let prefix = prefix(i as u32, cell(&raw.stack_prefix, i));
-        let row = stack_after(default, funcs, categories, &rows, prefix, frame);
+        let row = stack_after(default, &rows, prefix, frame);
         rows.push(HeldStack::of(row))?;
     }
     Ok(rows)

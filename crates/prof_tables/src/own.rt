@@ -1,16 +1,16 @@
 //! The samples and markers of a thread, made of checked columns.
-ghost use Rattle.std.specs.Prelude.{◌≡◌, ◌<◌, ◌≤◌, length, true, false, IfOk, All, None, unwrap_or, slice_get};
-ghost use Rattle.prof_tables.specs.Moments.{sum_below};
-ghost use Rattle.prof_tables.specs.Rules.{range_rule};
-ghost use Rattle.prof_tables.specs.Rows.{time_of, sample_at, samples_of, marker_at, rows_of, marker_rows_of, marker_texts_of};
-ghost use Rattle.prof_tables.specs.Fits.{FitSamples, FitMarkers};
-ghost use Rattle.prof_tables.specs.Ties.{IsSample, IsMarker, IsPart};
+ghost use Rattle.std.specs.Prelude.{◌≡◌, ◌<◌, ◌≤◌, length, true, false, IfOk, All, None, [], if◌then◌else◌, unwrap_or, slice_get};
+ghost use Rattle.prof_raw.specs.Moments.{sum_below, time_of};
+ghost use Rattle.prof_raw.specs.Rules.{range_rule};
+ghost use Rattle.prof_tables.specs.Rows.{sample_at, samples_of, marker_at, rows_of, marker_rows_of};
+ghost use Rattle.prof_raw.specs.Fits.{FitSamples, FitMarkers};
+ghost use Rattle.prof_tables.specs.Ties.{IsSample};
 
-use crate::cells::{cell, cell_at, index, maybe_index, phase, weight};
 use crate::markers::RawMarker;
-use crate::moment::next_sum;
-use crate::raw::{RawColumn, RawOwn};
 use crate::rows::SampleRow;
+use prof_io::Text;
+use prof_raw::cells::{cell, cell_at, index, maybe_index, phase, weight};
+use prof_raw::{RawColumn, RawOwn, next_sum};
 use std::alloc::{AllocError, Global};
 
 /// The time of a row, where `sum` is that of the deltas before it.
@@ -34,7 +34,7 @@ fn time_after(sum: i64, deltas: bool, times: &RawColumn, row: usize) -> i64
 }
 
 /// The sample of a row, where `sum` is that of the deltas before it.
-#[tactic(auto, using(crate::proofs::Ranges::in_range))]
+#[tactic(auto, using(crate::proofs::RangeLemmas::in_range))]
 fn sample_at(stacks: u32, sum: i64, raw: &RawOwn, k: usize) -> SampleRow
     requires fit { FitSamples stacks raw.now }
     requires inside { k < length raw.now.sample_stack.cells }
@@ -73,13 +73,10 @@ pub(crate) fn samples_of(
 }
 
 /// The marker of a row.
-#[tactic(auto, using(crate::proofs::Ranges::maybe_in_range, crate::proofs::RowLists::all_at))]
 fn marker_at(strings: u32, raw: &RawOwn, m: usize) -> RawMarker
     requires fit { FitMarkers strings raw.now }
     requires inside { m < length raw.now.marker_phase.cells }
-    requires ranges { All (IsPart (length raw.now.marker_texts)) raw.now.marker_ranges }
-    ensures row { result ≡ marker_at raw.now m }
-    ensures tied { IsMarker strings (length raw.now.marker_texts) result }
+    ensures { result ≡ marker_at raw.now m }
 {
     let texts = match raw.marker_ranges.get(m) {
         Some(range) => *range,
@@ -96,11 +93,9 @@ fn marker_at(strings: u32, raw: &RawOwn, m: usize) -> RawMarker
 
 /// The markers of a table that is there.
 fn listed_markers(alloc: Global, strings: u32, raw: &RawOwn) -> Result<Vec<RawMarker>, AllocError>
-    requires fit { FitMarkers strings raw.now }
-    requires ranges { All (IsPart (length raw.now.marker_texts)) raw.now.marker_ranges }
-    ensures rows { IfOk result (λ v. v.items ≡ rows_of (marker_at raw.now) (length raw.now.marker_phase.cells)) }
-    ensures count { IfOk result (λ v. length v.items ≡ length raw.now.marker_phase.cells) }
-    ensures tied { IfOk result (λ v. All (IsMarker strings (length raw.now.marker_texts)) v.items) }
+    requires { FitMarkers strings raw.now }
+    ensures { IfOk result (λ v.
+        v.items ≡ rows_of (marker_at raw.now) (length raw.now.marker_phase.cells)) }
 {
     let rows = raw.marker_phase.values.len();
     let mut markers = Vec::with_capacity(alloc, rows)?;
@@ -110,6 +105,13 @@ fn listed_markers(alloc: Global, strings: u32, raw: &RawOwn) -> Result<Vec<RawMa
     Ok(markers)
 }
 
+/// The texts of the markers, and none without their table.
+pub(crate) fn marker_texts_of(alloc: Global, has_markers: bool, texts: Vec<Text>) -> Vec<Text>
+    ensures { result.items ≡ (if has_markers then texts.items else []) }
+{
+    if has_markers { texts } else { Vec::new(alloc) }
+}
+
 /// The markers that the columns stand for, and none without their table.
 #[tactic(auto, unfolding(crate::specs::Rows::marker_rows_of))]
 pub(crate) fn marker_rows_of(
@@ -117,11 +119,8 @@ pub(crate) fn marker_rows_of(
     strings: u32,
     raw: &RawOwn,
 ) -> Result<Vec<RawMarker>, AllocError>
-    requires fit { raw.now.has_markers ≡ true → FitMarkers strings raw.now }
-    requires ranges { All (IsPart (length raw.now.marker_texts)) raw.now.marker_ranges }
-    ensures rows { IfOk result (λ v. v.items ≡ marker_rows_of raw.now) }
-    ensures few { IfOk result (λ v. length v.items ≤ 4194304) }
-    ensures tied { IfOk result (λ v. All (IsMarker strings (length (marker_texts_of raw.now))) v.items) }
+    requires { raw.now.has_markers ≡ true → FitMarkers strings raw.now }
+    ensures { IfOk result (λ v. v.items ≡ marker_rows_of raw.now) }
 {
     if raw.has_markers {
         listed_markers(alloc, strings, raw)

@@ -1,4 +1,6 @@
 //! A profile: its threads and the categories that they count in.
+ghost use Rattle.prof_tables.specs.Profiles.{IsProfile};
+
 use crate::thread::Thread;
 use prof_io::Text;
 use std::marker::Model;
@@ -18,7 +20,24 @@ impl Model for Profile {
 
     ghost Value = { ProfileTables };
 
-    ghost view = { λ p. record { threads = map (λ t. t.value) p.threads.items; categories = p.categories.items; default = p.default } };
+    ghost view = { λ p. record {
+      threads = map (λ t. t.value) p.threads.items;
+      categories = p.categories.items;
+      default = p.default;
+    } };
 
-    ghost invariant = { λ p. IsProfile (record { threads = map (λ t. t.value) p.threads.items; categories = p.categories.items; default = p.default }) };
+    ghost invariant = { λ p. IsProfile (record {
+      threads = map (λ t. t.value) p.threads.items;
+      categories = p.categories.items;
+      default = p.default;
+    }) };
+}
+
+impl Profile {
+    /// What each profile keeps: at most 1,024 threads, which all have its categories and its default. The call does nothing.
+    pub fn keeps(&self)
+        ensures { IsProfile self.now }
+    {
+        let _ = &self.default;
+    }
 }

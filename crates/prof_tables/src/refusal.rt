@@ -1,8 +1,8 @@
 //! Why tables weren't built.
 ghost use Rattle.std.specs.Prelude.{◌≡◌};
 
-use crate::rule::Broken;
 use prof_io::NoMemory;
+use prof_raw::Broken;
 use std::alloc::{AllocError, AllocFailed};
 
 /// Why tables weren't built.

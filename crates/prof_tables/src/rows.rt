@@ -36,12 +36,3 @@ pub struct FuncStrings {
     pub name: u32,
     pub file: Option<u32>,
 }
-
-/// What the weights of a thread's samples count.
-#[derive(Clone, Copy, PartialEq, Eq, Debug)]
-pub enum Unit {
-    Samples,
-    Bytes,
-    /// Nanoseconds.
-    Ns,
-}

@@ -2,21 +2,19 @@
 ghost use Rattle.std.specs.Prelude.{◌≡◌, IfOk, ◌+◌, ◌<◌, ◌^◌, length, Some, slice_get, slice_index_or, option_map, option_copied, IfSome, All, None};
 ghost use Rattle.prof_tables.specs.Threads.{Func, text_at, resource_of, resource_name, func_name, file_name};
 ghost use Rattle.prof_tables.specs.Frames.{IsFrameOf};
-ghost use Rattle.prof_tables.specs.Ties.{IsStackRow};
+ghost use Rattle.prof_tables.specs.Ties.{IsStackRow, IsShared};
 ghost use Rattle.prof_tables.specs.Builds.{Builds};
-ghost use Rattle.prof_tables.specs.Checks.{shared_broken};
-ghost use Rattle.prof_tables.specs.Fits.{FitShared};
+ghost use Rattle.prof_raw.specs.Checks.{shared_broken};
+ghost use Rattle.prof_raw.specs.Fits.{FitShared};
 ghost use Rattle.prof_tables.specs.Rows.{shared_of};
 
-use crate::check::check_shared;
 use crate::held::{HeldFrame, HeldFunc};
 use crate::make::{frames_of, funcs_of, resources_of, stack_frames_of, stacks_of};
-use crate::raw::RawShared;
 use crate::refusal::BuildRefusal;
 use crate::rows::{FrameRow, FuncStrings};
 use crate::stacks::Stacks;
-use crate::strings::Strings;
 use prof_io::Steps;
+use prof_raw::{RawShared, Strings, check_shared};
 use std::alloc::{AllocError, Global};
 use std::marker::Model;
 use std::rc::Rc;
@@ -37,7 +35,7 @@ pub struct Shared {
 
 impl Model for Shared {
     ghost use Rattle.prof_tables.specs.Threads.{SharedTables};
-    ghost use Rattle.prof_tables.specs.Ties.{AreTied, AreFrames};
+    ghost use Rattle.prof_tables.specs.Ties.{IsShared};
 
     ghost Value = { SharedTables };
 
@@ -52,7 +50,7 @@ impl Model for Shared {
       default = s.default;
     } };
 
-    ghost invariant = { λ s. AreTied (record {
+    ghost invariant = { λ s. IsShared (record {
       strings = s.strings.value;
       resources = s.resources.items;
       funcs = s.funcs.items;
@@ -61,17 +59,7 @@ impl Model for Shared {
       stack_frames = s.stack_frames.items;
       categories = s.categories;
       default = s.default;
-    })
-        × AreFrames (record {
-          strings = s.strings.value;
-          resources = s.resources.items;
-          funcs = s.funcs.items;
-          frames = s.frames.items;
-          stacks = s.stacks;
-          stack_frames = s.stack_frames.items;
-          categories = s.categories;
-          default = s.default;
-        }) };
+    }) };
 }
 
 impl Shared {
@@ -89,7 +77,7 @@ impl Shared {
         let resources = resources_of(alloc, raw)?;
         let funcs = funcs_of(alloc, raw)?;
         let frames = frames_of(alloc, categories, raw)?;
-        let rows = stacks_of(alloc, default, categories, &frames, raw)?;
+        let rows = stacks_of(alloc, default, &frames, raw)?;
         let stack_frames = stack_frames_of(alloc, raw)?;
         let strings = raw.strings.clone()?;
         Ok(Shared {
@@ -113,7 +101,8 @@ impl Shared {
         default: u32,
     ) -> Result<Rc<Shared>, BuildRefusal>
         requires { default < categories }
-        ensures { Builds (λ s. s.value) result (shared_broken thread categories raw) (shared_of categories default raw) }
+        ensures { Builds (λ s. s.value) result
+            (shared_broken thread categories raw) (shared_of categories default raw) }
     {
         check_shared(thread, categories, &raw)?;
         let shared = Shared::of_checked(alloc, &raw, categories, default)?;
@@ -128,9 +117,18 @@ impl Shared {
         default: u32,
     ) -> Result<Rc<Shared>, BuildRefusal>
         requires { default < categories }
-        ensures { Builds (λ s. s.value) result (shared_broken None categories raw) (shared_of categories default raw) }
+        ensures { Builds (λ s. s.value) result
+            (shared_broken None categories raw) (shared_of categories default raw) }
     {
         Shared::make(alloc, raw, None, categories, default)
+    }
+
+    /// What each value of the tables keeps: they are within their limits, and each number is in its range. The call does
+    /// nothing.
+    pub fn keeps(&self)
+        ensures { IsShared self.now }
+    {
+        let _ = &self.default;
     }
 
     pub(crate) fn strings(&self) -> &Strings
@@ -200,8 +198,10 @@ impl Shared {
 
     pub(crate) fn func_strings(&self, f: u32) -> FuncStrings
         requires { f < length self.now.funcs }
-        ensures name { option_map (λ (func : Func). func.name) (slice_get self.now.funcs f) ≡ Some result.name }
-        ensures file { option_map (λ (func : Func). func.file) (slice_get self.now.funcs f) ≡ Some result.file }
+        ensures name { option_map (λ (func : Func). func.name) (slice_get self.now.funcs f)
+            ≡ Some result.name }
+        ensures file { option_map (λ (func : Func). func.file) (slice_get self.now.funcs f)
+            ≡ Some result.file }
         ensures name_below { result.name < length self.now.strings }
         ensures file_below { IfSome result.file (λ n. n < length self.now.strings) }
     {
@@ -221,7 +221,8 @@ impl Shared {
 
     pub(crate) fn relevant_for_js(&self, f: u32) -> bool
         requires { f < length self.now.funcs }
-        ensures { option_map (λ (func : Func). func.relevant_for_js) (slice_get self.now.funcs f) ≡ Some result }
+        ensures { option_map (λ (func : Func). func.relevant_for_js) (slice_get self.now.funcs f)
+            ≡ Some result }
     {
         self.funcs[f as usize].relevant_for_js
     }

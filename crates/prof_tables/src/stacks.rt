@@ -74,15 +74,24 @@ impl Model for StacksBuilder {
 
     ghost Value = { Building };
 
-    ghost view = { λ b. record { rows = b.rows.items; room = b.room; funcs = b.funcs; categories = b.categories } };
+    ghost view = { λ b. record {
+      rows = b.rows.items;
+      room = b.room;
+      funcs = b.funcs;
+      categories = b.categories;
+    } };
 
-    ghost invariant = { λ b. (b.room ≤ vec_capacity b.rows) × (length b.rows.items ≤ b.room) × PrefixesBelow b.rows.items × All (IsStackRow b.funcs b.categories) b.rows.items };
+    ghost invariant = { λ b. (b.room ≤ vec_capacity b.rows)
+        × (length b.rows.items ≤ b.room)
+        × PrefixesBelow b.rows.items
+        × All (IsStackRow b.funcs b.categories) b.rows.items };
 }
 
 impl StacksBuilder {
     /// No rows yet, with room for so many, of so many functions and categories.
     pub fn new(alloc: Global, room: u32, funcs: u32, categories: u32) -> Result<Self, NoMemory>
-        ensures { IfOk result (λ builder. builder ≡ record { rows = []; room = room; funcs = funcs; categories = categories }) }
+        ensures { IfOk result (λ builder. builder
+            ≡ record { rows = []; room = room; funcs = funcs; categories = categories }) }
     {
         let rows = Vec::with_capacity(alloc, room as usize)?;
         Ok(StacksBuilder {
@@ -99,7 +108,10 @@ impl StacksBuilder {
         requires prefix { IfSome prefix (λ p. p < length self.old.rows) }
         requires func { func < self.old.funcs }
         requires category { category < self.old.categories }
-        ensures added { self.new ≡ record self.old { rows = self.old.rows ++ record { prefix = prefix; func = func; category = category } ∷ [] } }
+        ensures added { self.new ≡ record self.old {
+          rows =
+              self.old.rows ++ record { prefix = prefix; func = func; category = category } ∷ [];
+        } }
         ensures number { result ≡ length self.old.rows }
     {
         let number = self.rows.len() as u32;

@@ -2,23 +2,20 @@
 ghost use Rattle.std.specs.Prelude.{true, IfOk, ◌≡◌, ◌+◌, ◌<◌, ◌≤◌, ◌^◌, length, Some, slice_get, option_map, option_copied, IfSome, All};
 ghost use Rattle.prof_tables.specs.Threads.{Func, resource_of, resource_name, func_name, file_name};
 ghost use Rattle.prof_tables.specs.Frames.{IsFrameOf};
-ghost use Rattle.prof_tables.specs.Ties.{IsStackRow, IsSample, IsMarker, IsPart, InRange};
+ghost use Rattle.prof_tables.specs.Ties.{IsStackRow, IsSample, IsMarker, IsPart, InRange, IsShared, AreOwn};
 ghost use Rattle.prof_tables.specs.Builds.{Builds};
-ghost use Rattle.prof_tables.specs.Cells.{shared_part, own_part};
-ghost use Rattle.prof_tables.specs.Checks.{own_broken, thread_broken};
-ghost use Rattle.prof_tables.specs.Fits.{FitSamples, FitMarkers};
+ghost use Rattle.prof_raw.specs.Checks.{own_broken, thread_broken};
+ghost use Rattle.prof_raw.specs.Fits.{FitSamples, FitMarkers};
 ghost use Rattle.prof_tables.specs.Rows.{shared_of, thread_of};
 
-use crate::check::check_own;
 use crate::markers::RawMarkers;
-use crate::own::{marker_rows_of, samples_of};
-use crate::raw::{RawOwn, RawThread};
+use crate::own::{marker_rows_of, marker_texts_of, samples_of};
 use crate::refusal::BuildRefusal;
-use crate::rows::{FrameRow, FuncStrings, SampleRow, Unit};
+use crate::rows::{FrameRow, FuncStrings, SampleRow};
 use crate::shared::Shared;
 use crate::stacks::Stacks;
-use crate::strings::Strings;
 use prof_io::{NoMemory, Steps, Text};
+use prof_raw::{RawOwn, RawShared, RawThread, Strings, Unit, check_own};
 use std::alloc::{AllocError, Global};
 use std::marker::Model;
 use std::rc::Rc;
@@ -40,9 +37,21 @@ impl Model for Thread {
 
     ghost Value = { ThreadTables };
 
-    ghost view = { λ t. record { shared = t.shared.value; name = t.name; unit = t.unit; samples = t.samples.items; markers = t.markers.value } };
+    ghost view = { λ t. record {
+      shared = t.shared.value;
+      name = t.name;
+      unit = t.unit;
+      samples = t.samples.items;
+      markers = t.markers.value;
+    } };
 
-    ghost invariant = { λ t. AreOwn (record { shared = t.shared.value; name = t.name; unit = t.unit; samples = t.samples.items; markers = t.markers.value }) };
+    ghost invariant = { λ t. AreOwn (record {
+      shared = t.shared.value;
+      name = t.name;
+      unit = t.unit;
+      samples = t.samples.items;
+      markers = t.markers.value;
+    }) };
 }
 
 impl Thread {
@@ -63,32 +72,53 @@ impl Thread {
     {
         let samples = samples_of(alloc, stacks, &raw)?;
         let rows = marker_rows_of(alloc, strings, &raw)?;
-        let unit = raw.unit();
-        let (name, texts) = raw.into_texts(alloc);
+        let texts = marker_texts_of(alloc, raw.has_markers, raw.marker_texts);
         let markers = Rc::new(alloc, RawMarkers { rows, texts })?;
         Ok(Thread {
             shared,
-            name,
-            unit,
+            name: raw.name,
+            unit: raw.unit.unwrap_or(Unit::Samples),
             samples,
             markers,
         })
     }
 
-    /// The thread of its own columns, or the first rule that they break.
-    fn make(
+    /// The thread of its own columns over tables that it shares, or the first rule that its own columns break.
+    pub fn build_own(
         alloc: Global,
         shared: Rc<Shared>,
-        raw: RawOwn,
+        own: RawOwn,
         number: u32,
     ) -> Result<Thread, BuildRefusal>
-        requires { All (IsPart (length raw.marker_texts)) raw.marker_ranges }
-        ensures { Builds (λ t. t) result (own_broken (Some number) (length shared.value.strings) (length shared.value.stacks) raw) (thread_of shared.value raw) }
+        requires { All (IsPart (length own.marker_texts)) own.marker_ranges }
+        ensures { Builds (λ t. t) result
+            (own_broken (Some number)
+            (length shared.value.strings) (length shared.value.stacks) own)
+            (thread_of shared.value own) }
     {
         let strings = shared.strings().count();
         let stacks = shared.stacks().count();
-        check_own(Some(number), strings, stacks, &raw)?;
-        Ok(Thread::of_checked(alloc, shared, strings, stacks, raw)?)
+        check_own(Some(number), strings, stacks, &own)?;
+        Ok(Thread::of_checked(alloc, shared, strings, stacks, own)?)
+    }
+
+    /// The thread of the columns of all its tables, or the first rule that they break.
+    pub fn build_parts(
+        alloc: Global,
+        shared: RawShared,
+        own: RawOwn,
+        number: u32,
+        categories: u32,
+        default: u32,
+    ) -> Result<Thread, BuildRefusal>
+        requires default { default < categories }
+        requires ranges { All (IsPart (length own.marker_texts)) own.marker_ranges }
+        ensures { Builds (λ t. t) result
+            (thread_broken number categories (record { shared = shared; own = own }))
+            (thread_of (shared_of categories default shared) own) }
+    {
+        let shared = Shared::make(alloc, shared, Some(number), categories, default)?;
+        Thread::build_own(alloc, shared, own, number)
     }
 
     /// The thread of its own columns over tables that it shares, or the first rule that its own columns break. The columns
@@ -99,11 +129,14 @@ impl Thread {
         raw: RawThread,
         number: u32,
     ) -> Result<Thread, BuildRefusal>
-        requires { All (IsPart (length raw.marker_texts)) raw.marker_ranges }
-        ensures { Builds (λ t. t) result (own_broken (Some number) (length shared.value.strings) (length shared.value.stacks) (own_part raw)) (thread_of shared.value (own_part raw)) }
+        requires { All (IsPart (length raw.own.marker_texts)) raw.own.marker_ranges }
+        ensures { Builds (λ t. t) result
+            (own_broken (Some number)
+            (length shared.value.strings) (length shared.value.stacks) raw.own)
+            (thread_of shared.value raw.own) }
     {
         let (_, own) = raw.parts();
-        Thread::make(alloc, shared, own, number)
+        Thread::build_own(alloc, shared, own, number)
     }
 
     /// The thread of its columns, or the first rule that they break.
@@ -115,12 +148,13 @@ impl Thread {
         default: u32,
     ) -> Result<Thread, BuildRefusal>
         requires default { default < categories }
-        requires ranges { All (IsPart (length raw.marker_texts)) raw.marker_ranges }
-        ensures { Builds (λ t. t) result (thread_broken number categories raw) (thread_of (shared_of categories default (shared_part raw)) (own_part raw)) }
+        requires ranges { All (IsPart (length raw.own.marker_texts)) raw.own.marker_ranges }
+        ensures { Builds (λ t. t) result
+            (thread_broken number categories raw)
+            (thread_of (shared_of categories default raw.shared) raw.own) }
     {
         let (shared, own) = raw.parts();
-        let shared = Shared::make(alloc, shared, Some(number), categories, default)?;
-        Thread::make(alloc, shared, own, number)
+        Thread::build_parts(alloc, shared, own, number, categories, default)
     }
 
     /// The same thread with other samples and another unit.
@@ -132,7 +166,8 @@ impl Thread {
     ) -> Result<Thread, NoMemory>
         requires few { length rows.items ≤ 8388608 }
         requires fit { All (IsSample (length self.now.shared.stacks)) rows.items }
-        ensures { IfOk result (λ thread. thread ≡ record self.now { unit = unit; samples = rows.items }) }
+        ensures { IfOk result (λ thread.
+            thread ≡ record self.now { unit = unit; samples = rows.items }) }
     {
         let shared = self.shared.clone()?;
         let name = self.name.copy(alloc)?;
@@ -148,12 +183,24 @@ impl Thread {
 }
 
 impl Thread {
+    /// What each thread keeps: its tables and the tables that it stands on are within their limits, and each number is in
+    /// its range. The call does nothing.
+    pub fn keeps(&self)
+        ensures shared { IsShared self.now.shared }
+        ensures own { AreOwn self.now }
+    {
+        self.shared.keeps();
+        let _ = &self.unit;
+    }
+
+    /// The thread's name.
     pub fn name(&self) -> &str
         ensures { result.now ≡ self.now.name }
     {
         self.name.as_str()
     }
 
+    /// What the weights of the samples count.
     pub fn unit(&self) -> Unit
         ensures { result ≡ self.now.unit }
     {
@@ -176,12 +223,14 @@ impl Thread {
         self.shared.resource_count()
     }
 
+    /// The number of categories.
     pub fn category_count(&self) -> u32
         ensures { result ≡ self.now.shared.categories }
     {
         self.shared.categories()
     }
 
+    /// The number of the default category.
     pub fn default_category(&self) -> u32
         ensures value { result ≡ self.now.shared.default }
         ensures below { result < self.now.shared.categories }
@@ -189,6 +238,7 @@ impl Thread {
         self.shared.default_category()
     }
 
+    /// The number of samples.
     pub fn sample_count(&self) -> u32
         ensures count { result ≡ length self.now.samples }
         ensures few { result ≤ 8388608 }
@@ -221,6 +271,7 @@ impl Thread {
         self.shared.func_resource(f)
     }
 
+    /// The name of a resource.
     pub fn resource_name(&self, r: u32) -> &str
         requires { r < length self.now.shared.resources }
         ensures { result.now ≡ resource_name self.now.shared r }
@@ -231,7 +282,8 @@ impl Thread {
     /// Whether a function is JavaScript.
     pub fn is_js(&self, f: u32) -> bool
         requires { f < length self.now.shared.funcs }
-        ensures { option_map (λ (func : Func). func.is_js) (slice_get self.now.shared.funcs f) ≡ Some result }
+        ensures { option_map (λ (func : Func). func.is_js) (slice_get self.now.shared.funcs f)
+            ≡ Some result }
     {
         self.shared.is_js(f)
     }
@@ -239,11 +291,13 @@ impl Thread {
     /// Whether a function that isn't JavaScript is shown among JavaScript.
     pub fn relevant_for_js(&self, f: u32) -> bool
         requires { f < length self.now.shared.funcs }
-        ensures { option_map (λ (func : Func). func.relevant_for_js) (slice_get self.now.shared.funcs f) ≡ Some result }
+        ensures { option_map (λ (func : Func). func.relevant_for_js) (slice_get self.now.shared.funcs f)
+            ≡ Some result }
     {
         self.shared.relevant_for_js(f)
     }
 
+    /// A sample.
     pub fn sample(&self, k: u32) -> SampleRow
         requires { k < length self.now.samples }
         ensures row { slice_get self.now.samples k ≡ Some result }
@@ -254,23 +308,28 @@ impl Thread {
         self.samples[k as usize]
     }
 
+    /// The strings.
     pub fn strings(&self) -> &Strings
         ensures { result.now ≡ self.now.shared.strings }
     {
         self.shared.strings()
     }
 
+    /// The stack rows.
     pub fn stacks(&self) -> &Stacks
         ensures rows { result.now ≡ self.now.shared.stacks }
-        ensures steps { All (IsStackRow (length self.now.shared.funcs) self.now.shared.categories) self.now.shared.stacks }
+        ensures steps { All (IsStackRow (length self.now.shared.funcs) self.now.shared.categories)
+            self.now.shared.stacks }
     {
         self.shared.stacks()
     }
 
+    /// The markers, as they stand in the table.
     pub fn markers(&self) -> &RawMarkers
         ensures rows { result.now ≡ self.now.markers }
         ensures few { length self.now.markers.rows ≤ 4194304 }
-        ensures tied { All (IsMarker (length self.now.shared.strings) (length self.now.markers.texts)) self.now.markers.rows }
+        ensures tied { All (IsMarker (length self.now.shared.strings) (length self.now.markers.texts))
+            self.now.markers.rows }
     {
         &self.markers
     }
@@ -278,8 +337,10 @@ impl Thread {
     /// The places of a function's texts in the strings.
     pub fn func_strings(&self, f: u32) -> FuncStrings
         requires { f < length self.now.shared.funcs }
-        ensures name { option_map (λ (func : Func). func.name) (slice_get self.now.shared.funcs f) ≡ Some result.name }
-        ensures file { option_map (λ (func : Func). func.file) (slice_get self.now.shared.funcs f) ≡ Some result.file }
+        ensures name { option_map (λ (func : Func). func.name) (slice_get self.now.shared.funcs f)
+            ≡ Some result.name }
+        ensures file { option_map (λ (func : Func). func.file) (slice_get self.now.shared.funcs f)
+            ≡ Some result.file }
         ensures name_below { result.name < length self.now.shared.strings }
         ensures file_below { IfSome result.file (λ n. n < length self.now.shared.strings) }
     {
@@ -295,12 +356,14 @@ impl Thread {
         self.shared.resource_string(r)
     }
 
+    /// The number of frames.
     pub fn frame_count(&self) -> u32
         ensures { result ≡ length self.now.shared.frames }
     {
         self.shared.frame_count()
     }
 
+    /// A frame.
     pub fn frame(&self, j: u32) -> FrameRow
         requires { j < length self.now.shared.frames }
         ensures row { slice_get self.now.shared.frames j ≡ Some result }

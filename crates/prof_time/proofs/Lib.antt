@@ -4,7 +4,6 @@ pub mod Values
 pub mod Meanings
 pub mod Nearest
 pub mod Readings
-pub mod Samples
 pub mod Scaling
 pub mod Shorts
 pub mod Spellings

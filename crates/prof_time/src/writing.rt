@@ -58,26 +58,3 @@ fn push_digits(rest: u64, places: u32, out: &mut ArrayString<32>)
         rest %= weight;
     }
 }
-
-#[cfg(test)]
-mod tests {
-    use super::*;
-
-    fn text(n: i64, decimals: u32) -> ArrayString<32>
-        requires { decimals ≤ 6 }
-    {
-        let mut out = ArrayString::new();
-        write_scaled(n, decimals, &mut out);
-        out
-    }
-
-    #[test]
-    fn writes_the_shortest_text(rt: HostRuntime) {
-        assert_eq!(rt; text(1_500_000, 6).as_str(), "1.5");
-        assert_eq!(rt; text(-20, 1).as_str(), "-2");
-        assert_eq!(rt; text(5, 3).as_str(), "0.005");
-        assert_eq!(rt; text(0, 6).as_str(), "0");
-        assert_eq!(rt; text(i64::MIN, 6).as_str(), "-9223372036854.775808");
-        assert_eq!(rt; text(120, 0).as_str(), "120");
-    }
-}

@@ -8,7 +8,7 @@ use Rattle.prof_path.specs.Shown.{funcs}
 use Rattle.prof_tree.specs.declared.branch.Branch.{Branch}
 use Rattle.prof_tree.specs.Nodes.{Weighed, list_of, node_cmp, prefixes, keys_of, weighed, reversed}
 use Rattle.prof_tree.specs.Forest.{EachOf, HasPrefix, key}
-use Rattle.prof_tree.specs.Growing.{IsGrown, IsSmall}
+use Rattle.prof_tree.specs.Growing.{IsGrown, IsSmall, IsTable}
 use Rattle.prof_tree.proofs.Order.{Elem, EachOf-of, in_order-has}
 use Rattle.prof_tree.proofs.NodeOrder.{Pairs, HasPrefix-shorter}
 use Rattle.prof_tree.proofs.Steps.{HasPrefix-has, antisymm_of, exact_of, trans_of, distinct-of, below-of}
@@ -47,6 +47,10 @@ module _ (ks : List (List ℕ)) (n : ℕ) (f : ℕ → List ℕ) (apart : (i j :
 many_nodes : (zs : List Weighed) (n : ℕ) (f : ℕ → List ℕ) → ((i j : ℕ) → i < n → j < n → f i ≡ f j → i ≡ j) → ((i : ℕ) → i < n → (f i ≢ []) × HasPrefix zs (f i)) → n ≤ length (keys_of zs)
 many_nodes zs n f apart each =
     at_most (keys_of zs) n f apart (λ i h. (let e = each i h in in_order-has (node_cmp zs) (antisymm_of zs) (exact_of zs) (trans_of zs) (flat_map (λ x. prefixes (list_of x)) zs) (f i) (HasPrefix-has zs (f i) e.0 e.1)))
+
+-- rows that are nodes of the paths are at most as many as there are nodes
+pub nodes_within : (zs : List Weighed) (ks : List (List ℕ)) (rows : List Branch) (look : ℕ × ℕ → Option ℕ) → IsTable ks rows look → ((r : ℕ) → r < length rows → HasPrefix zs (key ks r)) → length rows ≤ length (keys_of zs)
+nodes_within zs ks rows look t each = many_nodes zs (length rows) (key ks) t.apart (λ r h. (key-long ks rows look t r h, each r h))
 
 -- the rows of some of the paths are nodes of them all
 pub rows_are_nodes : (xs zs : List Weighed) (ks : List (List ℕ)) (rows : List Branch) (look : ℕ × ℕ → Option ℕ) → IsGrown xs ks rows look → ((p : List ℕ) → HasPrefix xs p → HasPrefix zs p) → length rows ≤ length (keys_of zs)

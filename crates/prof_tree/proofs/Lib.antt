@@ -19,3 +19,6 @@ pub mod Lifting
 pub mod Gathering
 pub mod Sampled
 pub mod RowByRow
+pub mod ShownRows
+pub mod FoundRows
+pub mod FinalRows

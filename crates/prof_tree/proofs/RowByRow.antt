@@ -10,7 +10,7 @@ use Rattle.std.proofs.Math.Seq.{get_or-append_seam}
 use Rattle.prof_tables.specs.declared.rows.StackRow.{StackRow}
 use Rattle.prof_tables.specs.declared.rows.Step.{Step}
 use Rattle.prof_tables.specs.Paths.{PrefixesBelow, path, path_within, step_of}
-use Rattle.prof_tables.proofs.PathRows.{path-row}
+use Rattle.prof_tables.proofs.PathLemmas.{path-row}
 use Rattle.prof_path.specs.Shown.{funcs}
 use Rattle.prof_tree.specs.declared.branch.Branch.{Branch}
 use Rattle.prof_tree.specs.Forest.{key, key_above, branch}
@@ -42,7 +42,7 @@ within_some (o ∷ nodes) zero m e = omega arith
 within_some (o ∷ nodes) (suc q) m e = omega (arith, within_some nodes q m e)
 
 -- a path has at most as many steps as there are rows
-length-path_within : (stacks : List StackRow) (n : ℕ) (stack : Option ℕ) → length (path_within stacks n stack) ≤ n
+pub length-path_within : (stacks : List StackRow) (n : ℕ) (stack : Option ℕ) → length (path_within stacks n stack) ≤ n
 length-path_within stacks zero stack = omega arith
 length-path_within stacks (suc n) None = omega arith
 length-path_within stacks (suc n) (Some r) = over (slice_get stacks r) (λ p. length-path_within stacks n p)

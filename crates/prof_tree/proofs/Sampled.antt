@@ -13,8 +13,8 @@ use Rattle.prof_tables.specs.Threads.{ThreadTables}
 use Rattle.prof_tables.specs.declared.rows.Step.{Step}
 use Rattle.prof_tables.specs.Paths.{path, path_within, step_of}
 use Rattle.prof_tree.specs.declared.weighing.SampleWeights.{SampleWeights}
-use Rattle.prof_tree.specs.Nodes.{Weighed, total}
-use Rattle.prof_tree.specs.Weighing.{AreAlike, Weighs, held, mass, no_row, own_path, row_path, weight_at, with_more}
+use Rattle.prof_tree.specs.Nodes.{Weighed, reversed, total}
+use Rattle.prof_tree.specs.Weighing.{AreAlike, Weighs, back_path, held, mass, no_row, own_path, row_path, weight_at, with_more}
 use Rattle.prof_tree.proofs.Alike.{alike_same, alike_on, alike_moved, alike_empty, alike_last, held_more}
 use Rattle.prof_tree.proofs.Masses.{most, size-add, fits_within, size_small, mass-more}
 use Rattle.prof_tree.proofs.PathSteps.{total-snoc}
@@ -69,6 +69,9 @@ module _ (z w : ℤ) (n : ℕ) (few : n < 8388608) (small : unsigned_abs z ≤ n
       let k : r ≡ z +ℤ w = e ∙ ap (λ y. y +ℤ to_z w64 (of_z w64 w)) (same128 z held_sum) ∙ ap (λ y. z +ℤ y) (same64 w low high) in
       ap (λ y. to_z w128 (of_z w128 y)) k ∙ same128 (z +ℤ w) sum_within
 
+reversed_more : (xs : List Weighed) (x : Weighed) → map reversed (xs ++ x ∷ []) ≡ map reversed xs ++ reversed x ∷ []
+reversed_more xs x = map-append reversed xs (x ∷ [])
+
 -- one more sample
 module _ (stacks : List StackRow) (xs : List Weighed) (w : ℤ) (s t : SampleWeights) (k : Weighs stacks xs s) (few : length xs < 8388608) (low : neg_ℤ (pos 9223372036854775808) ≤ℤ w) (high : w ≤ℤ pos 9223372036854775807) (selected : t.selected ≡ s.selected +ℤ w) where
   total_more : (x : List Step) → t.selected ≡ total (xs ++ record { steps = x; weight = w } ∷ [])
@@ -85,6 +88,10 @@ module _ (stacks : List StackRow) (xs : List Weighed) (w : ℤ) (s t : SampleWei
         len = ap length rows ∙ k.len;
         alike = subst (λ l. AreAlike (held (row_path stacks) 0 l) (xs ++ empty ∷ [])) (sym rows)
             (alike_on held_rows xs (xs ++ empty ∷ []) k.alike (alike_on xs (empty ∷ xs) (xs ++ empty ∷ []) (alike_empty w xs) (alike_moved empty xs)));
+        backward = subst (λ l. AreAlike (held (back_path stacks) 0 l) (map reversed (xs ++ empty ∷ []))) (sym rows)
+            (subst (AreAlike (held (back_path stacks) 0 s.by_row.items)) (sym (reversed_more xs empty))
+            (alike_on (held (back_path stacks) 0 s.by_row.items) (map reversed xs) (map reversed xs ++ empty ∷ []) k.backward
+            (alike_on (map reversed xs) (empty ∷ map reversed xs) (map reversed xs ++ empty ∷ []) (alike_empty w (map reversed xs)) (alike_moved empty (map reversed xs)))));
         selected = total_more [];
         dropped = dropped ∙ ap (λ z. z +ℤ w) k.dropped ∙ sym (dropped-yes xs _ [] w refl refl);
         light = omega (arith, ap mass rows, k.light, length-snoc xs empty);
@@ -102,6 +109,10 @@ module _ (stacks : List StackRow) (xs : List Weighed) (w : ℤ) (s t : SampleWei
         alike = subst (λ l. AreAlike (held (row_path stacks) 0 l) (xs ++ one ∷ [])) (sym rows)
             (alike_on (held (row_path stacks) 0 (with_more ws row w)) (held (row_path stacks) 0 ws ++ one ∷ []) (xs ++ one ∷ [])
             (held_more (row_path stacks) 0 ws row row w inside (omega arith)) (alike_last one (held (row_path stacks) 0 ws) xs k.alike));
+        backward = subst (λ l. AreAlike (held (back_path stacks) 0 l) (map reversed (xs ++ one ∷ []))) (sym rows)
+            (subst (AreAlike (held (back_path stacks) 0 (with_more ws row w))) (sym (reversed_more xs one))
+            (alike_on (held (back_path stacks) 0 (with_more ws row w)) (held (back_path stacks) 0 ws ++ reversed one ∷ []) (map reversed xs ++ reversed one ∷ [])
+            (held_more (back_path stacks) 0 ws row row w inside (omega arith)) (alike_last (reversed one) (held (back_path stacks) 0 ws) (map reversed xs) k.backward)));
         selected = total_more x;
         dropped = dropped ∙ k.dropped ∙ sym (dropped-no xs _ x w refl (path-some stacks row (subst (λ n. row < n) k.len inside)));
         light = omega (arith, ap mass rows, mass-more ws row w inside, size_small w low (omega (arith, ints)), k.light, length-snoc xs one);
@@ -123,6 +134,7 @@ module _ (stacks : List StackRow) where
   weighs_none s rows selected dropped = record {
     len = ap length rows ∙ length-replicate (length stacks) None;
     alike = subst (λ l. AreAlike l []) (sym (ap (held (row_path stacks) 0) rows ∙ held-none (row_path stacks) 0 (length stacks))) (alike_same []);
+    backward = subst (λ l. AreAlike l []) (sym (ap (held (back_path stacks) 0) rows ∙ held-none (back_path stacks) 0 (length stacks))) (alike_same []);
     selected = selected;
     dropped = dropped;
     light = omega (arith, ap mass rows, mass-none (length stacks));

@@ -76,10 +76,10 @@ get_or-any_node (n ∷ ns) zero d e h = refl
 get_or-any_node (n ∷ ns) (suc i) d e h = get_or-any_node ns i d e (omega arith)
 
 -- what a slice that is written whole leaves in its list
-pub written : (n : ℕ) (ys items : List Node) → n ≡ length items → length ys ≡ length items → take n (ys ++ drop (length ys) items) ≡ ys
-written n ys items e h = ap (λ m. take m (ys ++ drop (length ys) items)) (e ∙ sym h) ∙ front ys (drop (length ys) items)
+pub written : {X : Type 0} (n : ℕ) (ys items : List X) → n ≡ length items → length ys ≡ length items → take n (ys ++ drop (length ys) items) ≡ ys
+written {X} n ys items e h = ap (λ m. take m (ys ++ drop (length ys) items)) (e ∙ sym h) ∙ front ys (drop (length ys) items)
   where
-    front : (ys rest : List Node) → take (length ys) (ys ++ rest) ≡ ys
+    front : (ys rest : List X) → take (length ys) (ys ++ rest) ≡ ys
     front [] rest = refl
     front (y ∷ ys) rest = ap (λ z. y ∷ z) (front ys rest)
 

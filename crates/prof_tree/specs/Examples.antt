@@ -1,7 +1,7 @@
 -- Two small threads, and the trees that the definitions make of them
 use Rattle.std.specs.Prelude.{◌≡◌, ℕ, ℤ, pos, negsuc, true, false, List, [], ◌∷◌, Option, Some, None, refl}
 use Rattle.prof_tables.specs.declared.rows.SampleRow.{SampleRow}
-use Rattle.prof_tables.specs.declared.rows.Unit.TheVariants.{Samples}
+use Rattle.prof_raw.specs.declared.raw.Unit.TheVariants.{Samples}
 use Rattle.prof_tables.specs.Threads.{SharedTables, ThreadTables}
 use Rattle.prof_path.specs.declared.transform.Range.{Range}
 use Rattle.prof_path.specs.declared.transform.Implementation.{Implementation}

@@ -1,5 +1,7 @@
 pub mod Nodes
+pub mod Trees
 pub mod Views
+pub mod Showing
 pub mod Examples
 pub mod Forest
 pub mod Ranks

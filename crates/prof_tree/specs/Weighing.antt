@@ -1,5 +1,5 @@
 -- What the samples of a thread weigh, added up by their stack rows.
-use Rattle.std.specs.Prelude.{◌≡◌, ◌≢◌, ℕ, zero, suc, ◌*◌, ◌+◌, ◌<◌, ◌≤◌, ◌==◌, nat_lt, ℤ, pos, ◌+ℤ◌, unsigned_abs, Bool, if◌then◌else◌, List, [], ◌∷◌, ◌++◌, length, map, Option, Some, None, slice_set, slice_index_or, unwrap_or}
+use Rattle.std.specs.Prelude.{◌≡◌, ◌≢◌, ℕ, zero, suc, ◌*◌, ◌+◌, ◌<◌, ◌≤◌, ◌==◌, nat_lt, ℤ, pos, ◌+ℤ◌, unsigned_abs, Bool, if◌then◌else◌, List, [], ◌∷◌, ◌++◌, length, map, reverse, Option, Some, None, slice_set, slice_index_or, unwrap_or}
 use Rattle.std.specs.List.{filter, list_all, list_any}
 use Rattle.prof_tables.specs.declared.rows.SampleRow.{SampleRow}
 use Rattle.prof_tables.specs.declared.rows.StackRow.{StackRow}
@@ -8,7 +8,7 @@ use Rattle.prof_tables.specs.Threads.{ThreadTables}
 use Rattle.prof_tables.specs.Paths.{path, step_of}
 use Rattle.prof_tree.specs.declared.weighing.SampleWeights.{SampleWeights}
 use Rattle.prof_tree.specs.Forest.{HasPrefix}
-use Rattle.prof_tree.specs.Nodes.{Weighed, total_at, own_at, categories_at, total, dropped_of}
+use Rattle.prof_tree.specs.Nodes.{Weighed, reversed, total_at, own_at, categories_at, total, dropped_of}
 
 -- a sample's own path, with its weight, and those of a thread's samples
 abbrev pub own_path : ThreadTables → SampleRow → Weighed
@@ -48,10 +48,15 @@ pub record AreAlike (xs ys : List Weighed) : Type 0 where
   pub forth : (p : List ℕ) → p ≢ [] → HasPrefix xs p → HasPrefix ys p
   pub back : (p : List ℕ) → p ≢ [] → HasPrefix ys p → HasPrefix xs p
 
+-- the path of each stack row, read from its leaf
+abbrev pub back_path : List StackRow → ℕ → List Step
+back_path stacks row = reverse (row_path stacks row)
+
 -- the weights are those of these paths of samples, by their rows, all together, and of those without a step
 pub record Weighs (stacks : List StackRow) (xs : List Weighed) (w : SampleWeights) : Type 0 where
   pub len : length w.by_row.items ≡ length stacks
   pub alike : AreAlike (held (row_path stacks) 0 w.by_row.items) xs
+  pub backward : AreAlike (held (back_path stacks) 0 w.by_row.items) (map reversed xs)
   pub selected : w.selected ≡ total xs
   pub dropped : w.dropped ≡ dropped_of xs
   -- weights are of 64 bits

@@ -1,4 +1,4 @@
-// A node while a tree is built.
+//! A node while a tree is built.
 
 /// A row of a tree that is being built: the place of its parent's row, and what is known of its node. A parent's row
 /// stands before those of its children. A category of None says that the node's steps have several.

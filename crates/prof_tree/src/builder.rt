@@ -1,4 +1,4 @@
-// A tree that grows by one path after another.
+//! A tree that grows by one path after another.
 ghost use Rattle.std.specs.Prelude.{◌≡◌, ◌++◌, ◌∷◌, ◌^◌, ◌<◌, ◌+ℤ◌, ℕ, List, [], length, map, IfOk, OnOk};
 ghost use Rattle.prof_tree.specs.Building.{Holds};
 ghost use Rattle.prof_tree.specs.Nodes.{Weighed, nodes_of, node_at, AreKeys, total, dropped_of, root_total, own_total};
@@ -50,14 +50,14 @@ impl TreeBuilder {
     /// The tree, where `default` is the category of a node whose steps have several.
     pub fn finish(self, alloc: Global, default: u32) -> Result<Tree, NoMemory>
         requires { (xs : List Weighed) × Holds xs self }
-        ensures nodes { IfOk result (λ tree. (xs : List Weighed) → Holds xs self → tree.nodes.items ≡ nodes_of default xs) }
+        ensures nodes { IfOk result (λ tree. (xs : List Weighed) → Holds xs self → tree.nodes ≡ nodes_of default xs) }
         ensures selected { IfOk result (λ tree. (xs : List Weighed) → Holds xs self → tree.selected ≡ total xs) }
-        ensures each_once { IfOk result (λ tree. (xs : List Weighed) → Holds xs self → (keys : List (List ℕ)) × AreKeys xs keys × (tree.nodes.items ≡ map (node_at default xs) keys)) }
+        ensures each_once { IfOk result (λ tree. (xs : List Weighed) → Holds xs self → (keys : List (List ℕ)) × AreKeys xs keys × (tree.nodes ≡ map (node_at default xs) keys)) }
         ensures dropped { IfOk result (λ tree. (xs : List Weighed) → Holds xs self → tree.dropped ≡ dropped_of xs) }
 
         // The weights balance.
-        ensures roots { IfOk result (λ tree. root_total tree.nodes.items +ℤ tree.dropped ≡ tree.selected) }
-        ensures selves { IfOk result (λ tree. own_total tree.nodes.items +ℤ tree.dropped ≡ tree.selected) }
+        ensures roots { IfOk result (λ tree. root_total tree.nodes +ℤ tree.dropped ≡ tree.selected) }
+        ensures selves { IfOk result (λ tree. own_total tree.nodes +ℤ tree.dropped ≡ tree.selected) }
     {
         let TreeBuilder {
             rows,

@@ -1,4 +1,4 @@
-// From the rows of a tree to its nodes.
+//! From the rows of a tree to its nodes.
 ghost use Rattle.std.specs.Prelude.{◌≡◌, ◌<◌, ◌≤◌, ℕ, List, length, map, IfOk, All, Option};
 ghost use Rattle.prof_tree.specs.Forest.{branch};
 ghost use Rattle.prof_tree.specs.Growing.{node_from, IsGrown, AreGrown};

@@ -1,4 +1,4 @@
-// From paths to the rows of their tree.
+//! From paths to the rows of their tree.
 ghost use Rattle.std.specs.Prelude.{◌≡◌, ◌+◌, ◌*◌, ◌^◌, ◌<◌, ◌≤◌, ℕ, ◌++◌, ◌∷◌, [], List, length, IfOk, slice_set, slice_index_or, FitsSigned, ◌+ℤ◌, All, Option, map, reverse};
 ghost use Rattle.std.specs.Int.{w128};
 ghost use Rattle.prof_tree.specs.Forest.{branch, link};

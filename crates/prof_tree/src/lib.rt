@@ -4,15 +4,20 @@
 
 mod branch;
 mod builder;
+mod finding;
 mod finishing;
 mod growing;
 mod listing;
 mod node;
 mod own;
+mod plain_tree;
+mod showing;
 mod sprouting;
 mod tree;
+mod viewing;
 mod weighing;
 
 pub use node::{InvertRefusal, Node, Tree};
 pub use own::own_tree;
+pub use plain_tree::plain;
 pub use tree::{of_paths, of_reversed};

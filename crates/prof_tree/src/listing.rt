@@ -1,4 +1,4 @@
-// From the rows of a tree to their order.
+//! From the rows of a tree to their order.
 ghost use Rattle.std.specs.Prelude.{◌≡◌, ◌+◌, ◌^◌, ◌<◌, ◌≤◌, ◌++◌, ℕ, List, length, map, replicate, option_to_list, IfOk, OnOk, None, All};
 ghost use Rattle.prof_tree.specs.Nodes.{Weighed, keys_of};
 ghost use Rattle.prof_tree.specs.Forest.{IsForest, key, HasForest, HasChildren, link};

@@ -1,6 +1,7 @@
-// The nodes of a tree, and why a tree is refused.
+//! The nodes of a tree, and why a tree is refused.
 use prof_io::NoMemory;
 use std::alloc::AllocError;
+use std::marker::Model;
 
 /// A node of a call tree: a list of functions, the last of which is `func`, with which some path begins. A root has depth
 /// 0. The total is the weight of the paths that begin with the list, and `own` the self weight, that of the paths that
@@ -21,6 +22,14 @@ pub struct Tree {
     pub nodes: Vec<Node>,
     pub selected: i128,
     pub dropped: i128,
+}
+
+impl Model for Tree {
+    ghost use Rattle.prof_tree.specs.Trees.{TreeLists};
+
+    ghost Value = { TreeLists };
+
+    ghost view = { λ t. record { nodes = t.nodes.items; selected = t.selected; dropped = t.dropped } };
 }
 
 /// Why there is no inverted tree: it has more nodes than the limit, or memory ran out.

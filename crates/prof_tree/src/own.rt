@@ -1,12 +1,11 @@
-// The tree of a thread's samples by their own paths.
+//! The tree of a thread's samples by their own paths.
 ghost use Rattle.std.specs.Prelude.{◌≡◌, ◌+◌, ◌^◌, ◌<◌, ◌≤◌, ◌+ℤ◌, ℕ, List, length, map, IfOk};
 ghost use Rattle.prof_tables.specs.Paths.{PrefixesBelow};
 ghost use Rattle.prof_tree.specs.Nodes.{nodes_of, node_at, AreKeys, total, dropped_of, root_total, own_total};
 ghost use Rattle.prof_tree.specs.Weighing.{own_paths};
 
-use crate::finishing::finish;
 use crate::node::Tree;
-use crate::sprouting::grown_by_rows;
+use crate::plain_tree::tree_of_rows;
 use crate::weighing::weights_of;
 use prof_io::{NoMemory, Steps};
 use prof_tables::{StackRow, Stacks, Thread};
@@ -14,7 +13,7 @@ use std::alloc::{AllocError, Global};
 use std::sync::ledger::Ledger;
 
 /// Reads the stack rows, each once.
-fn rows_of<L: Ledger>(
+pub(crate) fn rows_of<L: Ledger>(
     alloc: Global,
     stacks: &Stacks,
     reads: &mut Steps<L>,
@@ -38,27 +37,22 @@ pub fn own_tree<L: Ledger>(
     thread: &Thread,
     reads: &mut Steps<L>,
 ) -> Result<Tree, NoMemory>
-    ensures nodes { IfOk result (λ tree. tree.nodes.items ≡ nodes_of thread.now.shared.default (own_paths thread.now)) }
+    ensures nodes { IfOk result (λ tree. tree.nodes ≡ nodes_of thread.now.shared.default (own_paths thread.now)) }
     ensures each_once { IfOk result (λ tree. (keys : List (List ℕ)) × AreKeys (own_paths thread.now) keys
-        × (tree.nodes.items ≡ map (node_at thread.now.shared.default (own_paths thread.now)) keys)) }
+        × (tree.nodes ≡ map (node_at thread.now.shared.default (own_paths thread.now)) keys)) }
 
     ensures selected { IfOk result (λ tree. tree.selected ≡ total (own_paths thread.now)) }
     ensures dropped { IfOk result (λ tree. tree.dropped ≡ dropped_of (own_paths thread.now)) }
 
     // The weights balance.
-    ensures roots { IfOk result (λ tree. root_total tree.nodes.items +ℤ tree.dropped ≡ tree.selected) }
-    ensures selves { IfOk result (λ tree. own_total tree.nodes.items +ℤ tree.dropped ≡ tree.selected) }
+    ensures roots { IfOk result (λ tree. root_total tree.nodes +ℤ tree.dropped ≡ tree.selected) }
+    ensures selves { IfOk result (λ tree. own_total tree.nodes +ℤ tree.dropped ≡ tree.selected) }
 
     // Each stack row is read at most once.
     ensures once { reads.new ≤ reads.old + length thread.now.shared.stacks }
 {
     let stacks = rows_of(alloc, thread.stacks(), reads)?;
     let weights = weights_of(alloc, thread)?;
-    let rows = grown_by_rows(alloc, &stacks, &weights.by_row)?;
-    let nodes = finish(alloc, &rows, thread.default_category())?;
-    Ok(Tree {
-        nodes,
-        selected: weights.selected,
-        dropped: weights.dropped,
-    })
+    let tree = tree_of_rows(alloc, &stacks, &weights, thread.default_category())?;
+    Ok(tree)
 }

@@ -1,4 +1,4 @@
-// From the stack rows of a thread to the rows of its tree.
+//! From the stack rows of a thread to the rows of its tree.
 ghost use Rattle.std.specs.Prelude.{◌≡◌, ◌+◌, ◌*◌, ◌^◌, ◌<◌, ◌≤◌, ℕ, ℤ, List, length, IfOk, OnOk, IfSome, Option, None, slice_index_or};
 ghost use Rattle.std.specs.Option.{option_and_then, option_map_or};
 ghost use Rattle.std.specs.BTreeMap.{get};

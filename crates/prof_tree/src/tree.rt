@@ -1,4 +1,4 @@
-// The trees of paths that are handed in.
+//! The trees of paths that are handed in.
 ghost use Rattle.std.specs.Prelude.{◌≡◌, ◌^◌, ◌<◌, ◌≤◌, ◌+ℤ◌, ℕ, List, length, map, IfOk, All};
 ghost use Rattle.prof_tables.specs.declared.rows.Step.{Step};
 ghost use Rattle.prof_tree.specs.Nodes.{weighed, nodes_of, node_at, AreKeys, total, dropped_of, root_total, own_total, reversed, inverted_of, inverted_at, node_limit};
@@ -23,16 +23,16 @@ pub fn of_paths(
     requires few { length paths.now ≤ 8388608 }
     requires short { All (λ (x : List Step). length x < 2 ^ 32) paths.now }
 
-    ensures nodes { IfOk result (λ tree. tree.nodes.items ≡ nodes_of default (weighed paths.now weights.now)) }
+    ensures nodes { IfOk result (λ tree. tree.nodes ≡ nodes_of default (weighed paths.now weights.now)) }
     ensures each_once { IfOk result (λ tree. (keys : List (List ℕ)) × AreKeys (weighed paths.now weights.now) keys
-        × (tree.nodes.items ≡ map (node_at default (weighed paths.now weights.now)) keys)) }
+        × (tree.nodes ≡ map (node_at default (weighed paths.now weights.now)) keys)) }
 
     ensures selected { IfOk result (λ tree. tree.selected ≡ total (weighed paths.now weights.now)) }
     ensures dropped { IfOk result (λ tree. tree.dropped ≡ dropped_of (weighed paths.now weights.now)) }
 
     // The weights balance.
-    ensures roots { IfOk result (λ tree. root_total tree.nodes.items +ℤ tree.dropped ≡ tree.selected) }
-    ensures selves { IfOk result (λ tree. own_total tree.nodes.items +ℤ tree.dropped ≡ tree.selected) }
+    ensures roots { IfOk result (λ tree. root_total tree.nodes +ℤ tree.dropped ≡ tree.selected) }
+    ensures selves { IfOk result (λ tree. own_total tree.nodes +ℤ tree.dropped ≡ tree.selected) }
 {
     let mut builder = TreeBuilder::new(alloc);
     for (place, path) in paths.iter().enumerate() {
@@ -54,18 +54,18 @@ pub fn of_reversed(
     requires lengths { length weights.now ≡ length paths.now }
     requires few { length paths.now ≤ 8388608 }
 
-    ensures nodes { IfOk result (λ tree. tree.nodes.items ≡ inverted_of default (weighed paths.now weights.now)) }
+    ensures nodes { IfOk result (λ tree. tree.nodes ≡ inverted_of default (weighed paths.now weights.now)) }
     ensures each_once { IfOk result (λ tree. let backward = map reversed (weighed paths.now weights.now) in
-        (keys : List (List ℕ)) × AreKeys backward keys × (tree.nodes.items ≡ map (inverted_at default backward) keys)) }
+        (keys : List (List ℕ)) × AreKeys backward keys × (tree.nodes ≡ map (inverted_at default backward) keys)) }
 
     ensures selected { IfOk result (λ tree. tree.selected ≡ total (weighed paths.now weights.now)) }
     ensures dropped { IfOk result (λ tree. tree.dropped ≡ dropped_of (weighed paths.now weights.now)) }
 
     // The weights balance.
-    ensures roots { IfOk result (λ tree. root_total tree.nodes.items +ℤ tree.dropped ≡ tree.selected) }
+    ensures roots { IfOk result (λ tree. root_total tree.nodes +ℤ tree.dropped ≡ tree.selected) }
 
     // A tree comes only within the limit, and the refusal only past it.
-    ensures within { IfOk result (λ tree. length tree.nodes.items ≤ node_limit) }
+    ensures within { IfOk result (λ tree. length tree.nodes ≤ node_limit) }
     ensures many { (limit : ℕ) → result ≡ Err (InvertRefusal.TooManyNodes limit)
         → (limit ≡ node_limit) × (node_limit < length (inverted_of default (weighed paths.now weights.now))) }
 {
@@ -79,6 +79,3 @@ pub fn of_reversed(
         dropped,
     })
 }
-
-#[cfg(test)]
-mod tests;

@@ -1,4 +1,4 @@
-// What the samples of a thread weigh, added up by the stack rows that they stand on.
+//! What the samples of a thread weigh, added up by the stack rows that they stand on.
 ghost use Rattle.std.specs.Prelude.{◌≡◌, ◌∷◌, ◌++◌, [], ◌≤◌, ◌<◌, ◌*◌, ◌+◌, ◌+ℤ◌, ℕ, List, length, take, replicate, None, IfOk, IfSome, FitsSigned, slice_set, slice_index_or};
 ghost use Rattle.std.specs.Int.{w128};
 ghost use Rattle.prof_tables.specs.declared.rows.StackRow.{StackRow};
@@ -7,7 +7,7 @@ ghost use Rattle.prof_tree.specs.Weighing.{Weighs, own_paths, weight_at, with_mo
 ghost use Rattle.prof_tree.specs.Nodes.{Weighed};
 
 use crate::growing::plus;
-use prof_tables::{SampleRow, StackRow, Thread};
+use prof_tables::{StackRow, Thread};
 use std::alloc::{AllocError, Global};
 
 /// The weights of samples: by the stack rows that they stand on, all together, and of those without a stack. A row on
@@ -37,7 +37,7 @@ fn no_weights(alloc: Global, rows: usize) -> Result<Vec<Option<i128>>, AllocErro
 
 impl SampleWeights {
     /// No sample was there yet.
-    fn none(alloc: Global, rows: usize) -> Result<Self, AllocError>
+    pub fn none(alloc: Global, rows: usize) -> Result<Self, AllocError>
         ensures { IfOk result (λ w. (stacks : List StackRow) → length stacks ≡ rows → Weighs stacks [] w) }
     {
         Ok(SampleWeights {
@@ -47,17 +47,17 @@ impl SampleWeights {
         })
     }
 
-    /// Adds a sample.
-    fn add(&mut self, sample: SampleRow)
+    /// Adds a sample that stands on a row, or has the empty path.
+    pub fn add(&mut self, row: Option<u32>, weight: i64)
         requires held { (stacks : List StackRow) × (xs : List Weighed) × Weighs stacks xs self.old × (length xs < 8388608) }
-        requires row { IfSome sample.stack (λ row. row < length self.old.by_row.items) }
+        requires row { IfSome row (λ r. r < length self.old.by_row.items) }
         ensures { (stacks : List StackRow) (xs : List Weighed) → Weighs stacks xs self.old → length xs < 8388608
-            → Weighs stacks (xs ++ record { steps = path stacks sample.stack; weight = sample.weight } ∷ []) self.new }
+            → Weighs stacks (xs ++ record { steps = path stacks row; weight = weight } ∷ []) self.new }
     {
-        self.selected = plus(self.selected, sample.weight);
-        match sample.stack {
-            None => self.dropped = plus(self.dropped, sample.weight),
-            Some(row) => add_weight(&mut self.by_row, row as usize, i128::from(sample.weight)),
+        self.selected = plus(self.selected, weight);
+        match row {
+            None => self.dropped = plus(self.dropped, weight),
+            Some(row) => add_weight(&mut self.by_row, row as usize, i128::from(weight)),
         }
     }
 }
@@ -69,7 +69,8 @@ pub fn weights_of(alloc: Global, thread: &Thread) -> Result<SampleWeights, Alloc
 {
     let mut weights = SampleWeights::none(alloc, thread.stacks().count() as usize)?;
     for k in 0..thread.sample_count() {
-        weights.add(thread.sample(k));
+        let sample = thread.sample(k);
+        weights.add(sample.stack, sample.weight);
     }
     Ok(weights)
 }

@@ -1,19 +1,24 @@
 -- A string that is escaped run by run.
 use Rattle.std.proofs.Common.{◌≡◌, ℕ, suc, ◌+◌, ◌-◌, ◌<◌, ◌≤◌, Bool, true, false, cond, eqb, ltb, ◌||◌, List, [], ◌∷◌, ◌++◌, Option, Ok, length, take, drop, get_or, refl, sym, ap, ◌∙◌, arith, take-append-drop, append_assoc, append-nil}
-use Rattle.std.specs.Prelude.{codes}
-use Rattle.std.specs.List.{flat_map, prefix_len}
+use Rattle.std.specs.Prelude.{◌&&◌}
+use Rattle.std.specs.List.{flat_map, list_all, prefix_len}
 use Rattle.std.proofs.lemmas.Bool.{false≢true}
 use Rattle.std.proofs.lemmas.Bool.Decides.{nat_tests}
 use Rattle.std.proofs.lemmas.List.{drop_more, drop_all, take_rest}
 use Rattle.std.proofs.lemmas.List.Sums.{prefix_len_stops}
 use Rattle.std.proofs.lemmas.List.Concat.{flat_map-append}
-use Rattle.prof_io.specs.Shelf.{Place}
-use Rattle.prof_writer.specs.Writing.{WritesOut, escape, is_escaped, is_plain}
+use Rattle.prof_io.specs.Outside.{Seen}
+use Rattle.prof_io.specs.Sinks.{Wrote}
+use Rattle.prof_writer.specs.Writing.{escape, is_escaped, is_plain}
 use Rattle.prof_writer.proofs.Outputs.{writes_then, writes_as, writes_ok}
 
 not_or : (a b : Bool) → (a || b) ≡ false → (a ≡ false) × (b ≡ false)
 not_or false b h = (refl, h)
 not_or true b h = absurd (false≢true (sym h))
+
+and_true : (a b : Bool) → (a && b) ≡ true → (a ≡ true) × (b ≡ true)
+and_true true b h = (refl, h)
+and_true false b h = absurd (false≢true h)
 
 plain_is : (b : ℕ) → is_plain b ≡ true → is_escaped b ≡ false
 plain_is b h = from (is_escaped b) h where
@@ -33,6 +38,13 @@ escape_plain b h =
     let a13 : eqb b 13 ≡ false = grind (arith, nat_tests) in
     rw (two.1, one.1, a8, a9, a10, a12, a13, low) refl
 
+-- a text without such bytes stands for itself
+pub escape_none : (text : List ℕ) → list_all is_plain text ≡ true → flat_map escape text ≡ text
+escape_none [] h = refl
+escape_none (b ∷ bs) h =
+    let both = and_true (is_plain b) (list_all is_plain bs) h in
+    ap (λ x. x ++ flat_map escape bs) (escape_plain b both.0) ∙ ap (λ xs. b ∷ xs) (escape_none bs both.1)
+
 -- the front that needs no escape stands for itself
 pub escape_front : (text : List ℕ) → flat_map escape (take (prefix_len is_plain text) text) ≡ take (prefix_len is_plain text) text
 escape_front [] = refl
@@ -44,10 +56,10 @@ escape_front (b ∷ bs) = by (is_plain b) (escape_front bs) refl where
   by false rest h = refl
 
 -- so much of the text was written, and the rest is to come
-pub record IsEscaping {S : Type 0} (faults : S → ℕ) (left written : S → Option (List ℕ)) (place : S → Place) (sure : S → Type 0) (room : S → Option ℕ) (old now : S) (text rest : List ℕ) : Type 0 where
+pub record IsEscaping (old now : Seen) (text rest : List ℕ) : Type 0 where
   pub done : List ℕ
   pub is : text ≡ done ++ rest
-  pub writes : WritesOut {S = S} {T = Unit {0}} {E = Unit {0}} faults left written place sure room old now (Ok tt) (flat_map escape done)
+  pub writes : Wrote {T = Unit {0}} {E = Unit {0}} old now (Ok tt) (flat_map escape done)
 
 -- the front that needs no escape, and the rest behind it
 pub front_split : (text done rest : List ℕ) (len : ℕ) → text ≡ done ++ rest → len ≡ prefix_len is_plain rest → (flat_map escape done ++ take len rest) ++ flat_map escape (drop len rest) ≡ flat_map escape text
@@ -83,11 +95,11 @@ stop_is_escaped rest len n lt =
       from false h = absurd (false≢true (sym h))
 
 -- one more run and one more escape
-pub escaping_more : {S T E U F : Type 0} {faults : S → ℕ} {left written : S → Option (List ℕ)} {place : S → Place} {sure : S → Type 0} {room : S → Option ℕ} {old a b c : S} {x : T} {y : U} (text rest tail : List ℕ) (len byte : ℕ) →
-    IsEscaping {S = S} faults left written place sure room old a text rest → len ≡ prefix_len is_plain rest → drop len rest ≡ byte ∷ tail →
-    WritesOut {S = S} {T = T} {E = E} faults left written place sure room a b (Ok x) (take len rest) → WritesOut {S = S} {T = U} {E = F} faults left written place sure room b c (Ok y) (escape byte) →
-    IsEscaping {S = S} faults left written place sure room old c text tail
-escaping_more {faults = faults} {left = left} {written = written} {place = place} {sure = sure} {room = room} {old = old} {c = c} {y = y} text rest tail len byte i n next run escaped =
+pub escaping_more : {T E U F : Type 0} {old a b c : Seen} {x : T} {y : U} (text rest tail : List ℕ) (len byte : ℕ) →
+    IsEscaping old a text rest → len ≡ prefix_len is_plain rest → drop len rest ≡ byte ∷ tail →
+    Wrote {T = T} {E = E} a b (Ok x) (take len rest) → Wrote {T = U} {E = F} b c (Ok y) (escape byte) →
+    IsEscaping old c text tail
+escaping_more text rest tail len byte i n next run escaped =
     let front = take len rest in
     let plain : flat_map escape front ≡ front = rw n (escape_front rest) in
     let whole : text ≡ (i.done ++ (front ++ byte ∷ [])) ++ tail =
@@ -98,7 +110,3 @@ escaping_more {faults = faults} {left = left} {written = written} {place = place
     ∙ sym (flat_map-append escape i.done (front ++ byte ∷ [])) in
     let all = writes_then (writes_then i.writes run) escaped in
     record { done = i.done ++ (front ++ byte ∷ []); is = whole; writes = writes_ok (writes_as text_is all) }
-
--- quotation marks around what is escaped
-pub quoted_is : (c e : List ℕ) → ((c ++ codes "\"") ++ e) ++ codes "\"" ≡ c ++ (codes "\"" ++ (e ++ codes "\""))
-quoted_is c e = append_assoc (c ++ codes "\"") e (codes "\"") ∙ append_assoc c (codes "\"") (e ++ codes "\"")

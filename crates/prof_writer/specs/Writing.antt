@@ -1,10 +1,6 @@
 -- The bytes of JSON values as they are written.
-use Rattle.std.specs.Prelude.{◌≡◌, ℕ, ◌+◌, ◌/◌, ◌%◌, ◌==◌, ◌||◌, nat_lt, Bool, true, false, List, [], ◌∷◌, ◌++◌, codes, length, Option, Result, OnOk, if◌then◌else◌}
+use Rattle.std.specs.Prelude.{◌≡◌, ℕ, ◌+◌, ◌/◌, ◌%◌, ◌==◌, ◌||◌, nat_lt, Bool, true, false, List, [], ◌∷◌, ◌++◌, codes, if◌then◌else◌}
 use Rattle.std.specs.List.{flat_map}
-use Rattle.std.specs.Io.KnownBytes.{Appends}
-use Rattle.prof_io.specs.Bytes.{AppendsPart, FitsRoom}
-use Rattle.prof_io.specs.Causes.{HasCause}
-use Rattle.prof_io.specs.Shelf.{Place}
 
 -- a comma, where one is due
 abbrev pub comma_text : Bool → List ℕ
@@ -39,13 +35,3 @@ quoted text = codes "\"" ++ (flat_map escape text ++ codes "\"")
 
 abbrev pub truth_text : Bool → List ℕ
 truth_text value = if value then codes "true" else codes "false"
-
--- A text went into a sink: all of it, and where the sink failed a front of it. Besides the sink is as it was.
-pub record WritesOut {S T E : Type 0} (faults : S → ℕ) (left written : S → Option (List ℕ)) (place : S → Place) (sure : S → Type 0) (room : S → Option ℕ) (old new : S) (result : Result T E) (text : List ℕ) : Type 0 where
-  pub ok : OnOk result (Appends (written old) (written new) text)
-  pub front : AppendsPart (written old) (written new) text
-  pub left_same : left new ≡ left old
-  pub place_same : place new ≡ place old
-  pub fits : FitsRoom (room old) (room new) result (length text)
-  pub still_sure : sure old → sure new
-  pub cause : HasCause (faults old) (faults new) result

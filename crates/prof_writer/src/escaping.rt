@@ -1,19 +1,29 @@
 //! Strings between quotation marks.
 ghost use Rattle.std.specs.Prelude.{◌≡◌, ◌<◌, ◌≤◌, length, IsTrue};
 ghost use Rattle.std.specs.List.{flat_map, prefix_len};
-ghost use Rattle.prof_writer.specs.Writing.{WritesOut, escape, is_escaped, is_plain, hex_digit};
+ghost use Rattle.prof_io.specs.Outside.{seen};
+ghost use Rattle.prof_io.specs.Sinks.{Wrote};
+ghost use Rattle.prof_writer.specs.Writing.{escape, is_escaped, is_plain, hex_digit, quoted};
 
-use crate::output::write_out;
-use prof_io::{OutFault, Sink};
+use prof_io::{OutFault, Sink, copy_out};
+
+/// Writes a string in quotation marks.
+pub fn write_string<S: Sink>(out: &mut S, text: &str) -> Result<(), OutFault>
+    ensures { Wrote (seen S.Counted out.old) (seen S.Counted out.new) result (quoted text.now) }
+{
+    copy_out(out, b"\"")?;
+    write_escaped(out, text.as_bytes())?;
+    copy_out(out, b"\"")
+}
 
 /// Writes the bytes of a string, escaped where they have to be. What needs no escape goes out in whole runs.
-pub(crate) fn write_escaped<S: Sink>(out: &mut S, text: &[u8]) -> Result<(), OutFault>
-    ensures { WritesOut S.faults S.left S.written S.place S.sure S.room out.old out.new result (flat_map escape text.now) }
+fn write_escaped<S: Sink>(out: &mut S, text: &[u8]) -> Result<(), OutFault>
+    ensures { Wrote (seen S.Counted out.old) (seen S.Counted out.new) result (flat_map escape text.now) }
 {
     let mut rest = text;
     loop {
         let len = plain_len(rest);
-        write_out(out, &rest[..len])?;
+        copy_out(out, &rest[..len])?;
         if len == rest.len() {
             return Ok(());
         }
@@ -35,7 +45,8 @@ fn plain_len(text: &[u8]) -> usize
     text.len()
 }
 
-fn is_escaped(byte: u8) -> bool
+/// Whether the byte is escaped.
+pub(crate) fn is_escaped(byte: u8) -> bool
     ensures { result ≡ is_escaped byte }
 {
     byte < 32 || byte == b'"' || byte == b'\\'
@@ -43,17 +54,17 @@ fn is_escaped(byte: u8) -> bool
 
 fn write_escape<S: Sink>(out: &mut S, byte: u8) -> Result<(), OutFault>
     requires { IsTrue (is_escaped byte) }
-    ensures { WritesOut S.faults S.left S.written S.place S.sure S.room out.old out.new result (escape byte) }
+    ensures { Wrote (seen S.Counted out.old) (seen S.Counted out.new) result (escape byte) }
 {
     match byte {
-        b'"' => write_out(out, b"\\\""),
-        b'\\' => write_out(out, b"\\\\"),
-        8 => write_out(out, b"\\b"),
-        b'\t' => write_out(out, b"\\t"),
-        b'\n' => write_out(out, b"\\n"),
-        12 => write_out(out, b"\\f"),
-        b'\r' => write_out(out, b"\\r"),
-        _ => write_out(
+        b'"' => copy_out(out, b"\\\""),
+        b'\\' => copy_out(out, b"\\\\"),
+        8 => copy_out(out, b"\\b"),
+        b'\t' => copy_out(out, b"\\t"),
+        b'\n' => copy_out(out, b"\\n"),
+        12 => copy_out(out, b"\\f"),
+        b'\r' => copy_out(out, b"\\r"),
+        _ => copy_out(
             out,
             &[
                 b'\\',

@@ -2,7 +2,9 @@
 #![tactic(auto)]
 
 mod escaping;
-mod output;
+mod page;
 mod writer;
 
+pub use escaping::write_string;
+pub use page::push_unescaped;
 pub use writer::Writer;

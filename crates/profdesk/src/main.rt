@@ -3,9 +3,12 @@
 
 ghost use Rattle.std.specs.Prelude.{◌≡◌, ◌<◌};
 
-use prof_desk::{Status, run};
-use prof_io::{OsFiles, OsSink, SteadyHall, SteadyKeeper, Steps};
+use prof_desk::{Status, WordRefusal, refuse, run};
+use prof_io::Steps;
+use prof_memory::{SteadyHall, SteadyKeeper};
+use prof_system::{OsFiles, OsSink};
 use std::env;
+use std::io::ErrorKind;
 use std::marker::Brand;
 use std::process::ExitCode;
 use std::sync::ledger::{Blank, Ledger};
@@ -13,14 +16,15 @@ use std::sync::ledger::{Blank, Ledger};
 /// How many bytes a read of a connection gives at most.
 const PIECE: usize = 65536;
 
-/// The words of the command line after the program's name, or none where they aren't all text.
-fn words_of(rt: &HostRuntime) -> Vec<String> {
+/// The words of the command line after the program's name. Words that aren't all text fit no command.
+fn words_of(rt: &HostRuntime) -> Result<Vec<String>, WordRefusal> {
     match env::args(rt) {
         Ok(words) => words
             .skip(1)
             .collect(rt.alloc())
-            .unwrap_or(Vec::new(rt.alloc())),
-        Err(_) => Vec::new(rt.alloc()),
+            .map_err(|_| WordRefusal::NoMemory),
+        Err(error) if error.kind() == ErrorKind::OutOfMemory => Err(WordRefusal::NoMemory),
+        Err(_) => Err(WordRefusal::Usage),
     }
 }
 
@@ -51,7 +55,9 @@ fn run_counted<L: Ledger>(rt: &HostRuntime, words: &[String], blank: Blank) -> S
 }
 
 fn main(rt: HostRuntime) -> ExitCode {
-    let words = words_of(&rt);
-    let status = run_counted::<Brand>(&rt, &words, Blank::new(1));
+    let status = match words_of(&rt) {
+        Ok(words) => run_counted::<Brand>(&rt, &words, Blank::new(1)),
+        Err(refusal) => refuse(&mut OsSink::new(rt.stderr()), refusal),
+    };
     ExitCode::from(status as u8)
 }

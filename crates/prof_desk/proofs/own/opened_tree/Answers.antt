@@ -14,4 +14,4 @@ pub returns-clause-dropped : goal.returns-clause-dropped
 returns-clause-dropped g c = c.in_ok-tree.ensures.dropped ∙ ap dropped_of (sym (finals-fresh c.args.thread.now))
 
 pub returns-clause-funcs : goal.returns-clause-funcs
-returns-clause-funcs g c = tree_funcs c.args.thread.now c.args.thread.now.shared.default c.in_ok-tree.tree.nodes.items c.stacks.ensures.steps c.in_ok-tree.ensures.nodes
+returns-clause-funcs g c = tree_funcs c.args.thread.now c.args.thread.now.shared.default c.in_ok-tree.tree.nodes c.stacks.ensures.steps c.in_ok-tree.ensures.nodes

@@ -1,28 +1,17 @@
-use Rattle.std.proofs.Common.{◌≡◌, refl, subst}
-use Rattle.prof_grammar.specs.Value.{Value}
-use Rattle.prof_json.specs.declared.answer.Event.TheVariants as event
-use Rattle.prof_gather.specs.Feeding.{Gives}
-use Rattle.prof_gather.proofs.Turnings.{object_reads, array_reads, other_reads, other_found}
+use Rattle.std.proofs.Common.{[]}
+use Rattle.prof_gather.proofs.Nests.{text_opens}
+use Rattle.prof_gather.proofs.Behind.{on_ok_map, if_ok_map, then_outside, value_reads}
 use Rattle.prof_gather.proofs.whole.top_value.Goals as goal
 
-pub returns-in_ok-found-in-ObjectStart-clause-value : goal.returns-in_ok-found-in-ObjectStart-clause-value
-returns-in_ok-found-in-ObjectStart-clause-value g c =
-    let read = c.in_ok-found-in-ObjectStart.ensures.members in
-    let gives : Gives c.args.feed.now event.ObjectStart c.next.new.self = subst (λ e. Gives c.args.feed.now e c.next.new.self) c.in-ObjectStart.is c.in_ok-first.ensures.ok in
-    (Value.object read.0, object_reads c.args.feed.now c.next.new.self c.members.new.feed read.0 gives read.1, read.2)
+pub object_behind-requires-clause-event : goal.object_behind-requires-clause-event
+object_behind-requires-clause-event g c = (text_opens c.in_ok-first.first c.args.feed.now c.next.new.self c.requires.fresh c.in_ok-first.ensures.ok).begun
 
-pub returns-in-Null-clause-value : goal.returns-in-Null-clause-value
-returns-in-Null-clause-value g c =
-    let gives : Gives c.args.feed.now event.Null c.next.new.self = subst (λ e. Gives c.args.feed.now e c.next.new.self) c.in-Null.is c.in_ok-first.ensures.ok in
-    (Value.null, record { told = gives.rest }, refl)
+pub returns-clause-ok : goal.returns-clause-ok
+returns-clause-ok g c =
+    let opens = text_opens c.in_ok-first.first c.args.feed.now c.next.new.self c.requires.fresh c.in_ok-first.ensures.ok in
+    on_ok_map c.object_behind.result (λ f. then_outside c.in_ok-first.first [] c.args.feed.now c.next.new.self c.object_behind.new.feed opens f) c.object_behind.ensures.ok
 
-pub returns-in_ok-skip_array-in-ArrayStart-clause-value : goal.returns-in_ok-skip_array-in-ArrayStart-clause-value
-returns-in_ok-skip_array-in-ArrayStart-clause-value g c =
-    let read = c.in_ok-skip_array-in-ArrayStart.ensures.value in
-    let gives : Gives c.args.feed.now event.ArrayStart c.next.new.self = subst (λ e. Gives c.args.feed.now e c.next.new.self) c.in-ArrayStart.is c.in_ok-first.ensures.ok in
-    (Value.array read.0, array_reads c.args.feed.now c.next.new.self c.skip_array.new.self read.0 gives read.1, refl)
-
-pub returns-in-Str-clause-value : goal.returns-in-Str-clause-value
-returns-in-Str-clause-value g c =
-    let read = other_reads c.in_ok-first.first c.args.feed.now c.next.new.self c.in-Str.is c.in_ok-first.ensures.ok in
-    (read.0, read.1, other_found g.T.FromMembers.is read.0 read.2)
+pub returns-clause-value : goal.returns-clause-value
+returns-clause-value g c =
+    let opens = text_opens c.in_ok-first.first c.args.feed.now c.next.new.self c.requires.fresh c.in_ok-first.ensures.ok in
+    if_ok_map c.object_behind.result (λ found read. (read.0, value_reads c.in_ok-first.first c.args.feed.now c.next.new.self c.object_behind.new.feed [] read.0 opens c.in_ok-first.ensures.ok read.1, read.2)) c.object_behind.ensures.value

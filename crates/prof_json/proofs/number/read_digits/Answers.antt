@@ -1,7 +1,7 @@
-use Rattle.std.proofs.Common.{◌≡◌, ℕ, List, ◌<◌, ◌∷◌, true, refl, arith}
+use Rattle.std.proofs.Common.{◌≡◌, ℕ, List, ◌<◌, ◌∷◌, true, refl, subst, arith}
 use Rattle.std.proofs.lemmas.Grind.{common_steps}
 use Rattle.prof_json.specs.Ahead.{IsNext}
-use Rattle.prof_json.specs.Bytes.{is_digit}
+use Rattle.prof_json.specs.Bytes.{Each, is_digit}
 use Rattle.prof_json.proofs.Journeys.{moves_trans, moves_pass, moves_here, smaller}
 use Rattle.prof_json.proofs.Runs.{run_some, run_here, run_within, run_is}
 use Rattle.prof_json.proofs.Texts.{adds_none, adds_digits, gains_on}
@@ -11,10 +11,11 @@ use Rattle.prof_json.proofs.Machines.{goes_trans, goes_run}
 use Rattle.prof_json.proofs.Turns.{digits_on}
 use Rattle.prof_json.proofs.Written.{writes_here, writes_goes, writes_on, writes_fault}
 use Rattle.prof_json.proofs.Utf8.{digits_utf8}
+use Rattle.prof_json.proofs.Owning.{any_here, any_same, any_trans, any_run}
 use Rattle.prof_json.proofs.number.read_digits.Goals as goal
 
 pub digits-init : goal.digits-init
-digits-init g c = record { moves = moves_here _ _ _; text = adds_none; exact = λ begun n s ps r h d. writes_here (λ t. digits n t ∷ ps) s h }
+digits-init g c = record { moves = moves_here _ _; text = adds_none; own = any_here _ _; exact = λ begun n s ps r h d. writes_here (λ t. digits n t ∷ ps) s h }
 
 pub push-requires : goal.push-requires
 push-requires g c = digits_utf8 c.digit_len-run.ensures.run
@@ -39,6 +40,9 @@ digits-preserved g c =
     record {
       moves = moves_pass (moves_trans c.digits.invariant.moves c.in-Ok-Some.ensures.moves) c.pass.ensures;
       text = adds_digits c.digits.invariant.text c.digit_len-run.ensures.run c.in_default.ensures.ok;
+      own =
+          let is = run_is c.peek.new.self c.digit_len-run.result _ c.ahead-ahead.ensures c.digit_len-run.ensures.within in
+          any_trans (any_trans c.digits.invariant.own (any_same c.in-Ok-Some.ensures.same)) (any_run _ (subst (Each is_digit) is c.digit_len-run.ensures.run) c.pass.ensures);
       exact = λ begun n s ps r h d.
           let w = c.digits.invariant.exact begun n s ps r h d in
           let to = λ (t : List ℕ). digits n t ∷ ps in
@@ -62,3 +66,9 @@ pub returns-then-not-is_digit-clause-exact : goal.returns-then-not-is_digit-clau
 returns-then-not-is_digit-clause-exact g c = λ begun n s ps r h d.
     let w = c.digits.invariant.exact begun n s ps r h d in
     writes_goes silent (λ t. digits n t ∷ ps) w.text (w.kept refl) (goes_trans w.goes (c.in-Ok-Some.ensures.exact (digits n w.text ∷ ps)))
+
+pub returns-in-Ok-None-clause-own : goal.returns-in-Ok-None-clause-own
+returns-in-Ok-None-clause-own g c = any_trans c.digits.invariant.own (any_same c.in-Ok-None.ensures.same)
+
+pub returns-then-not-is_digit-clause-own : goal.returns-then-not-is_digit-clause-own
+returns-then-not-is_digit-clause-own g c = any_trans c.digits.invariant.own (any_same c.in-Ok-Some.ensures.same)

@@ -7,15 +7,16 @@ use Rattle.prof_json.specs.Stages.{IsRunning}
 use Rattle.std.specs.Prelude.{None}
 use Rattle.prof_time.specs.Numeral.{AreDigits}
 use Rattle.prof_json.specs.Kept.{Kept, Adds, Gains}
-use Rattle.prof_json.specs.Moves.{Moves, lent}
+use Rattle.prof_io.specs.Outside.{seen}
+use Rattle.prof_json.specs.Moves.{Moves}
+use Rattle.prof_json.specs.Own.{OwnsAny}
 use Rattle.prof_json.proofs.number.read_digits.Given as goal
 
 abbrev pub invariant-digits : goal.invariant-digits
 invariant-digits g l = record {
-  moves : Moves None
-      (g.S.Counted.sure l.fn.src) l.fn.input (lent (g.S.Counted.left l.fn.src) (g.S.Counted.written l.fn.src) (g.S.Counted.place l.fn.src) (g.S.Counted.faults l.fn.src))
-      (g.S.Counted.sure l.src) l.input (lent (g.S.Counted.left l.src) (g.S.Counted.written l.src) (g.S.Counted.place l.src) (g.S.Counted.faults l.src));
+  moves : Moves None l.fn.input (seen g.S.Counted l.fn.src) l.input (seen g.S.Counted l.src);
   text : Adds AreDigits l.fn.text l.text;
+  own : OwnsAny l.fn.input.bytes (g.S.Counted.left l.fn.src) l.input.bytes (g.S.Counted.left l.src);
   exact : (begun : Kept) (n : Stage) (s : List ℕ) (ps : List Part) → IsRunning n → Gains begun s l.fn.text → depth ps ≤ max_depth →
       Writes None begun l.fn.input (g.S.Counted.left l.fn.src) (digits n s ∷ ps) silent l.input (g.S.Counted.left l.src) l.text (λ t. digits n t ∷ ps);
 }

@@ -11,13 +11,14 @@ use Rattle.prof_json.proofs.Texts.{no_exponent, adds_exponent, gains_on, e_of}
 use Rattle.prof_json.proofs.Machines.{goes_trans, goes_byte}
 use Rattle.prof_json.proofs.Turns as t
 use Rattle.prof_json.proofs.Written.{writes_on, writes_fault}
+use Rattle.prof_json.proofs.Owning.{any_owns, owns_behind, any_here}
 use Rattle.prof_json.proofs.number.read_exponent.Goals as goal
 
 pub returns-in_err-first-in-Some-clause-moves : goal.returns-in_err-first-in-Some-clause-moves
 returns-in_err-first-in-Some-clause-moves g c =
     let r = c.from_residual-in_err-first-in-Some in
     let p = err_from_is_err_and r.result r.ensures.1 in
-    rw (p.1, p.2) (moves_trans (moves_pass (moves_here _ _ _) c.in_ok-read_byte-in-Some.ensures.passed) c.in_err-first-in-Some.ensures.moves)
+    rw (p.1, p.2) (moves_trans (moves_pass (moves_here _ _) c.in_ok-read_byte-in-Some.ensures.passed) c.in_err-first-in-Some.ensures.moves)
 
 pub returns-in_err-first-in-Some-clause-exact : goal.returns-in_err-first-in-Some-clause-exact
 returns-in_err-first-in-Some-clause-exact g c = λ begun n s ps f h d.
@@ -32,7 +33,7 @@ returns-in_err-first-in-Some-clause-exact g c = λ begun n s ps f h d.
 
 pub returns-in_ok-first-in-Some-clause-moves : goal.returns-in_ok-first-in-Some-clause-moves
 returns-in_ok-first-in-Some-clause-moves g c =
-    moves_trans (moves_trans (moves_pass (moves_here _ _ _) c.in_ok-read_byte-in-Some.ensures.passed) c.in_ok-first-in-Some.ensures.moves) c.read_some_digits.ensures.moves
+    moves_trans (moves_trans (moves_pass (moves_here _ _) c.in_ok-read_byte-in-Some.ensures.passed) c.in_ok-first-in-Some.ensures.moves) c.read_some_digits.ensures.moves
 
 pub returns-in_ok-first-in-Some-clause-text : goal.returns-in_ok-first-in-Some-clause-text
 returns-in_ok-first-in-Some-clause-text g c =
@@ -59,3 +60,12 @@ returns-in_default-clause-text g c = no_exponent
 
 pub returns-in_default-2-clause-text : goal.returns-in_default-2-clause-text
 returns-in_default-2-clause-text g c = no_exponent
+
+pub returns-in_ok-first-in-Some-clause-own : goal.returns-in_ok-first-in-Some-clause-own
+returns-in_ok-first-in-Some-clause-own g c = on_ok_map c.read_some_digits.result (λ k. any_owns (owns_behind (moves_trans (moves_pass (moves_here _ _) c.in_ok-read_byte-in-Some.ensures.passed) c.in_ok-first-in-Some.ensures.moves) k)) c.read_some_digits.ensures.own
+
+pub returns-in_default-clause-own : goal.returns-in_default-clause-own
+returns-in_default-clause-own g c = any_here _ _
+
+pub returns-in_default-2-clause-own : goal.returns-in_default-2-clause-own
+returns-in_default-2-clause-own g c = any_here _ _

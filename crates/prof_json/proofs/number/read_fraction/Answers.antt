@@ -9,13 +9,14 @@ use Rattle.prof_json.proofs.Texts.{no_fraction, adds_fraction, gains_on}
 use Rattle.prof_json.proofs.Machines.{goes_trans, goes_byte}
 use Rattle.prof_json.proofs.Turns as t
 use Rattle.prof_json.proofs.Written.{writes_on, writes_fault}
+use Rattle.prof_json.proofs.Owning.{any_owns, owns_behind, any_here}
 use Rattle.prof_json.proofs.number.read_fraction.Goals as goal
 
 pub returns-in_err-first-in-Some-eq46-clause-moves : goal.returns-in_err-first-in-Some-eq46-clause-moves
 returns-in_err-first-in-Some-eq46-clause-moves g c =
     let r = c.from_residual-in_err-first-in-Some-eq46 in
     let p = err_from_is_err_and r.result r.ensures.1 in
-    rw (p.1, p.2) (moves_trans (moves_pass (moves_here _ _ _) c.in_ok-read_byte-in-Some-eq46.ensures.passed) c.in_err-first-in-Some-eq46.ensures.moves)
+    rw (p.1, p.2) (moves_trans (moves_pass (moves_here _ _) c.in_ok-read_byte-in-Some-eq46.ensures.passed) c.in_err-first-in-Some-eq46.ensures.moves)
 
 pub returns-in_err-first-in-Some-eq46-clause-exact : goal.returns-in_err-first-in-Some-eq46-clause-exact
 returns-in_err-first-in-Some-eq46-clause-exact g c = λ begun n s ps f h d.
@@ -28,7 +29,7 @@ returns-in_err-first-in-Some-eq46-clause-exact g c = λ begun n s ps f h d.
     rw (p.1, p.2) (writes_on point (writes_fault (c.in_err-first-in-Some-eq46.ensures.exact (digits after_point (s ++ 46 ∷ []) ∷ ps) (t.number_cut after_point (s ++ 46 ∷ []) ps refl))))
 
 pub returns-in_ok-first-in-Some-eq46-clause-moves : goal.returns-in_ok-first-in-Some-eq46-clause-moves
-returns-in_ok-first-in-Some-eq46-clause-moves g c = moves_trans (moves_trans (moves_pass (moves_here _ _ _) c.in_ok-read_byte-in-Some-eq46.ensures.passed) c.in_ok-first-in-Some-eq46.ensures.moves) c.read_some_digits.ensures.moves
+returns-in_ok-first-in-Some-eq46-clause-moves g c = moves_trans (moves_trans (moves_pass (moves_here _ _) c.in_ok-read_byte-in-Some-eq46.ensures.passed) c.in_ok-first-in-Some-eq46.ensures.moves) c.read_some_digits.ensures.moves
 
 pub returns-in_ok-first-in-Some-eq46-clause-text : goal.returns-in_ok-first-in-Some-eq46-clause-text
 returns-in_ok-first-in-Some-eq46-clause-text g c = on_ok_map c.read_some_digits.result (adds_fraction c.in_ok-read_byte-in-Some-eq46.ensures.text) c.read_some_digits.ensures.text
@@ -52,3 +53,12 @@ returns-in_default-clause-text g c = no_fraction
 
 pub returns-in_default-2-clause-text : goal.returns-in_default-2-clause-text
 returns-in_default-2-clause-text g c = no_fraction
+
+pub returns-in_ok-first-in-Some-eq46-clause-own : goal.returns-in_ok-first-in-Some-eq46-clause-own
+returns-in_ok-first-in-Some-eq46-clause-own g c = on_ok_map c.read_some_digits.result (λ k. any_owns (owns_behind (moves_trans (moves_pass (moves_here _ _) c.in_ok-read_byte-in-Some-eq46.ensures.passed) c.in_ok-first-in-Some-eq46.ensures.moves) k)) c.read_some_digits.ensures.own
+
+pub returns-in_default-clause-own : goal.returns-in_default-clause-own
+returns-in_default-clause-own g c = any_here _ _
+
+pub returns-in_default-2-clause-own : goal.returns-in_default-2-clause-own
+returns-in_default-2-clause-own g c = any_here _ _

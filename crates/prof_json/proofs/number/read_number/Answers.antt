@@ -10,6 +10,7 @@ use Rattle.prof_json.proofs.Texts.{adds_number, adds_negative, gains_on}
 use Rattle.prof_json.proofs.Machines.{goes_trans, goes_byte, goes_wrong, goes_full}
 use Rattle.prof_json.proofs.Turns as t
 use Rattle.prof_json.proofs.Written.{counts_fault, counts_on}
+use Rattle.prof_json.proofs.Owning.{owns_behind}
 use Rattle.prof_json.proofs.number.read_number.Goals as goal
 
 pub returns-then-first-ne45-clause-text : goal.returns-then-first-ne45-clause-text
@@ -30,7 +31,7 @@ pub returns-in_err-digit-clause-moves : goal.returns-in_err-digit-clause-moves
 returns-in_err-digit-clause-moves g c =
     let r = c.from_residual-in_err-digit in
     let p = err_from_is_err_and r.result r.ensures.1 in
-    rw (p.1, p.2) (moves_trans (moves_pass (moves_here _ _ _) c.in_ok-read_byte.ensures.passed) c.in_err-digit.ensures.moves)
+    rw (p.1, p.2) (moves_trans (moves_pass (moves_here _ _) c.in_ok-read_byte.ensures.passed) c.in_err-digit.ensures.moves)
 
 pub returns-in_err-digit-clause-exact : goal.returns-in_err-digit-clause-exact
 returns-in_err-digit-clause-exact g c = λ begun qs ps e h d.
@@ -41,7 +42,7 @@ returns-in_err-digit-clause-exact g c = λ begun qs ps e h d.
     rw (p.1, p.2) (counts_on minus (counts_fault (c.in_err-digit.ensures.exact (digits after_minus (first ∷ []) ∷ ps) (t.number_cut after_minus (first ∷ []) ps refl))))
 
 pub returns-then-not-is_digit-clause-moves : goal.returns-then-not-is_digit-clause-moves
-returns-then-not-is_digit-clause-moves g c = moves_wrong c.wrong.ensures (moves_trans (moves_pass (moves_here _ _ _) c.in_ok-read_byte.ensures.passed) c.in_ok-digit.ensures.moves)
+returns-then-not-is_digit-clause-moves g c = moves_wrong c.wrong.ensures (moves_trans (moves_pass (moves_here _ _) c.in_ok-read_byte.ensures.passed) c.in_ok-digit.ensures.moves)
 
 pub returns-then-not-is_digit-clause-exact : goal.returns-then-not-is_digit-clause-exact
 returns-then-not-is_digit-clause-exact g c = λ begun qs ps e h d.
@@ -54,7 +55,7 @@ returns-then-not-is_digit-clause-exact g c = λ begun qs ps e h d.
     (counts_fault (goes_wrong {b = c.args.input.now} {m = None} {qs = ps} {es = []} digit c.in_ok-digit.ensures.byte (t.number_wrong after_minus (first ∷ []) ps digit (t.no_digit_minus digit no) refl) c.wrong.ensures))
 
 pub returns-clause-moves : goal.returns-clause-moves
-returns-clause-moves g c = moves_trans (moves_trans (moves_pass (moves_here _ _ _) c.in_ok-read_byte.ensures.passed) c.in_ok-digit.ensures.moves) c.read_unsigned-2.ensures.moves
+returns-clause-moves g c = moves_trans (moves_trans (moves_pass (moves_here _ _) c.in_ok-read_byte.ensures.passed) c.in_ok-digit.ensures.moves) c.read_unsigned-2.ensures.moves
 
 pub returns-clause-text : goal.returns-clause-text
 returns-clause-text g c = on_ok_map c.read_unsigned-2.result (adds_negative c.if-first-ne45.false c.in_ok-read_byte.ensures.text) c.read_unsigned-2.ensures.text
@@ -75,3 +76,6 @@ returns-clause-exact g c = λ begun qs ps e h d.
     let needed = c.in_ok-digit.ensures.exact (digits after_minus (first ∷ []) ∷ ps) (t.number_cut after_minus (first ∷ []) ps refl) in
     counts_on (goes_trans minus needed)
     (c.read_unsigned-2.ensures.exact begun (first ∷ []) (digits after_minus (first ∷ []) ∷ ps) ps (t.number_on after_minus (whole_stage digit) (first ∷ []) ps digit (t.minus_on digit is)) (gains_on h c.in_ok-read_byte.ensures.text) d)
+
+pub returns-clause-own : goal.returns-clause-own
+returns-clause-own g c = on_ok_map c.read_unsigned-2.result (λ k. owns_behind (moves_trans (moves_pass (moves_here _ _) c.in_ok-read_byte.ensures.passed) c.in_ok-digit.ensures.moves) k) c.read_unsigned-2.ensures.own

@@ -1,13 +1,14 @@
 use Rattle.std.proofs.Common.{◌<◌, ℕ, List, ◌∷◌, subst}
-use Rattle.prof_json.specs.Bytes.{is_digit}
+use Rattle.prof_json.specs.Bytes.{Each, is_digit}
 use Rattle.prof_json.specs.Kept.{Gains}
 use Rattle.prof_json.specs.Writes.{silent}
 use Rattle.prof_grammar.specs.Machine.{digits}
 use Rattle.prof_json.proofs.Digits.{run_begins, each_rest, goes_digits}
-use Rattle.prof_json.proofs.Runs.{run_some}
+use Rattle.prof_json.proofs.Runs.{run_some, run_is}
 use Rattle.prof_json.proofs.Texts.{each_digits, gains_on}
 use Rattle.prof_json.proofs.Utf8.{digits_utf8}
 use Rattle.prof_json.proofs.Written.{writes_goes}
+use Rattle.prof_json.proofs.Owning.{any_run}
 use Rattle.prof_json.proofs.number.read_run.Goals as goal
 
 pub push-requires : goal.push-requires
@@ -27,3 +28,8 @@ returns-clause-exact c = λ left begun n s qs ps first runs h d.
     let gains : Gains c.args.text.now (c.args.first ∷ b.0) c.push.new.self = subst (λ x. Gains c.args.text.now x c.push.new.self) b.1 c.in_ok-push.ensures.ok in
     writes_goes silent to _ (gains_on h gains)
     (goes_digits c.args.input.now c.pass.new.self left c.args.first c.digit_len-run.result b.0 n s qs ps c.requires.next c.pass.ensures many b.2 (each_rest is_digit _ b.0 c.args.first b.1 c.digit_len-run.ensures.run) first runs d)
+
+pub returns-clause-own : goal.returns-clause-own
+returns-clause-own c = λ left.
+    let is = run_is c.args.input.now c.digit_len-run.result _ c.ahead-ahead.ensures c.digit_len-run.ensures.within in
+    any_run left (subst (Each is_digit) is c.digit_len-run.ensures.run) c.pass.ensures

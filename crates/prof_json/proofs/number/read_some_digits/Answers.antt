@@ -8,6 +8,7 @@ use Rattle.prof_json.proofs.Machines.{goes_wrong}
 use Rattle.prof_json.proofs.Turns as t
 use Rattle.prof_json.proofs.Written.{writes_on, writes_fault}
 use Rattle.prof_grammar.specs.Machine.{digits}
+use Rattle.prof_json.proofs.Owning.{any_trans, owns_any}
 use Rattle.prof_json.proofs.number.read_some_digits.Goals as goal
 
 pub read_run-requires-clause-digit : goal.read_run-requires-clause-digit
@@ -19,7 +20,7 @@ returns-then-not-is_digit-clause-exact g c = λ begun n n2 s ps w r h d.
     writes_fault (goes_wrong {b = c.args.input.now} {m = None} {qs = ps} {es = []} c.args.first c.requires (t.number_wrong n s ps c.args.first (w.off no) w.more) c.wrong.ensures)
 
 pub returns-clause-moves : goal.returns-clause-moves
-returns-clause-moves g c = moves_trans (moves_pass (moves_here _ _ _) c.in_ok-read_run.ensures.run.2) c.read_digits.ensures.moves
+returns-clause-moves g c = moves_trans (moves_pass (moves_here _ _) c.in_ok-read_run.ensures.run.2) c.read_digits.ensures.moves
 
 pub returns-clause-text : goal.returns-clause-text
 returns-clause-text g c =
@@ -39,3 +40,10 @@ returns-clause-exact g c = λ begun n n2 s ps w r h d.
     let is : is_digit c.args.first ≡ true = grind (arith, common_steps, c.is_digit.ensures) in
     let w' = c.in_ok-read_run.ensures.exact (g.S.Counted.left c.args.src.now) begun n2 s (digits n s ∷ ps) ps (t.number_on n n2 s ps c.args.first (w.on is)) r h d in
     writes_on w'.goes (c.read_digits.ensures.exact begun n2 w'.text ps r (w'.kept refl) d)
+
+pub returns-clause-own : goal.returns-clause-own
+returns-clause-own g c =
+    let some = c.in_ok-read_run.ensures.run.1 in
+    let p = c.in_ok-read_run.ensures.run.2.place in
+    let q = c.read_digits.ensures.moves.on in
+    on_ok_map c.read_digits.result (λ k. owns_any (moves_trans (moves_pass (moves_here _ _) c.in_ok-read_run.ensures.run.2) c.read_digits.ensures.moves) (omega arith) (any_trans (c.in_ok-read_run.ensures.own _) k)) c.read_digits.ensures.own

@@ -6,6 +6,7 @@ use Rattle.prof_json.proofs.Texts.{adds_unsigned}
 use Rattle.prof_json.proofs.Machines.{goes_trans}
 use Rattle.prof_json.proofs.Turns as t
 use Rattle.prof_json.proofs.Written.{writes_on, counts_fault, counts_on, counts_of}
+use Rattle.prof_json.proofs.Owning.{owns_then}
 use Rattle.prof_json.proofs.number.read_unsigned.Goals as goal
 
 pub returns-in_err-behind_whole-clause-exact : goal.returns-in_err-behind_whole-clause-exact
@@ -56,3 +57,6 @@ returns-clause-exact g c = λ begun s qs ps e h d.
     counts_of (behind_exponent fraction n) c.read_exponent.result
     (if_ok_map c.read_exponent.result (λ o k. k n over) c.read_exponent.ensures.over)
     (writes_on (goes_trans w.goes v.goes) u)
+
+pub returns-clause-own : goal.returns-clause-own
+returns-clause-own g c = on_ok_map c.read_exponent.result (λ k. owns_then (owns_then c.in_ok-behind_whole.ensures.own c.in_ok-behind_fraction.ensures.own) k) c.read_exponent.ensures.own

@@ -1,4 +1,5 @@
-use Rattle.std.proofs.Common.{ℕ, List, [], ◌∷◌, ◌++◌, refl, arith}
+use Rattle.prof_json.specs.Bytes.{is_space}
+use Rattle.std.proofs.Common.{◌≡◌, false, ℕ, List, [], ◌∷◌, ◌++◌, refl, arith}
 use Rattle.prof_grammar.specs.Machine.{digits}
 use Rattle.prof_json.specs.Writes.{silent}
 use Rattle.prof_json.specs.Stages.{whole_stage}
@@ -8,13 +9,14 @@ use Rattle.prof_json.proofs.Machines.{goes_byte}
 use Rattle.prof_json.proofs.Turns as t
 use Rattle.prof_json.proofs.Written.{writes_goes, writes_on}
 use Rattle.prof_json.proofs.Utf8.{digit_small}
+use Rattle.prof_json.proofs.Owning.{any_same, any_trans, owns_any, owns_then, owns_byte}
 use Rattle.prof_json.proofs.number.read_whole.Goals as goal
 
 pub read_byte-requires-clause-small : goal.read_byte-requires-clause-small
 read_byte-requires-clause-small g c = digit_small c.args.first c.requires.digit
 
 pub returns-then-first-eq48-clause-moves : goal.returns-then-first-eq48-clause-moves
-returns-then-first-eq48-clause-moves g c = moves_trans (moves_pass (moves_here _ _ _) c.in_ok-read_byte.ensures.passed) c.peek.ensures.moves
+returns-then-first-eq48-clause-moves g c = moves_trans (moves_pass (moves_here _ _) c.in_ok-read_byte.ensures.passed) c.peek.ensures.moves
 
 pub returns-then-first-eq48-clause-text : goal.returns-then-first-eq48-clause-text
 returns-then-first-eq48-clause-text g c = on_ok c.peek.result (adds_zero c.if-first-eq48.true c.in_ok-read_byte.ensures.text)
@@ -35,7 +37,7 @@ returns-then-first-eq48-clause-exact g c = λ begun s qs ps e h d.
     (writes_goes silent to (s ++ c.args.first ∷ []) (gains_on h c.in_ok-read_byte.ensures.text) (c.peek.ensures.exact (to (s ++ c.args.first ∷ []))))
 
 pub returns-clause-moves : goal.returns-clause-moves
-returns-clause-moves g c = moves_trans (moves_pass (moves_here _ _ _) c.in_ok-read_run.ensures.run.2) c.read_digits.ensures.moves
+returns-clause-moves g c = moves_trans (moves_pass (moves_here _ _) c.in_ok-read_run.ensures.run.2) c.read_digits.ensures.moves
 
 pub returns-clause-text : goal.returns-clause-text
 returns-clause-text g c =
@@ -58,3 +60,15 @@ returns-clause-exact g c = λ begun s qs ps e h d.
     let runs = t.whole_runs c.args.first c.if-first-eq48.false in
     let w = c.in_ok-read_run.ensures.exact (g.S.Counted.left c.args.src.now) begun n s qs ps e runs h d in
     writes_on w.goes (c.read_digits.ensures.exact begun n w.text ps runs (w.kept refl) d)
+
+pub returns-then-first-eq48-clause-own : goal.returns-then-first-eq48-clause-own
+returns-then-first-eq48-clause-own g c =
+    let own : is_space c.args.first ≡ false = rw c.if-first-eq48.true refl in
+    on_ok c.peek.result (owns_then (owns_byte _ c.requires.next own c.in_ok-read_byte.ensures.passed) (any_same c.peek.ensures.same))
+
+pub returns-clause-own : goal.returns-clause-own
+returns-clause-own g c =
+    let some = c.in_ok-read_run.ensures.run.1 in
+    let p = c.in_ok-read_run.ensures.run.2.place in
+    let q = c.read_digits.ensures.moves.on in
+    on_ok_map c.read_digits.result (λ k. owns_any (moves_trans (moves_pass (moves_here _ _) c.in_ok-read_run.ensures.run.2) c.read_digits.ensures.moves) (omega arith) (any_trans (c.in_ok-read_run.ensures.own _) k)) c.read_digits.ensures.own

@@ -6,6 +6,7 @@ use Rattle.prof_json.proofs.Journeys.{moves_trans, moves_here}
 use Rattle.prof_json.proofs.Machines.{fails_behind}
 use Rattle.prof_json.proofs.Texts.{gains_none}
 use Rattle.prof_json.proofs.Passing.{passed_none, passed_more, passed_all}
+use Rattle.prof_json.proofs.Owning.{owns_behind}
 use Rattle.prof_json.proofs.reading.skip_events.Goals as goal
 
 pub returns-in-Err-clause-moves : goal.returns-in-Err-clause-moves
@@ -57,7 +58,7 @@ returns-then-len-opened-clause-further g c =
 
 pub events-init : goal.events-init
 events-init g c = record {
-  moves = moves_here _ _ _;
+  moves = moves_here _ _;
   told = passed_none _ _ _ _ _ c.requires.around c.requires.occurs;
   occurs = c.requires.occurs;
   few = c.requires.few;
@@ -77,3 +78,6 @@ returns-then-len-opened-clause-told g c =
     let over = value_over c.in-Ok.ensures.ok.leads c.args.opened inv.within inv.inside few in
     let w = c.in-Ok.ensures.exact c.events.text gains_none in
     passed_all w.text inv.told c.in-Ok.ensures.ok.leads w.goes c.requires.around c.requires.within few over
+
+pub returns-then-len-opened-clause-own : goal.returns-then-len-opened-clause-own
+returns-then-len-opened-clause-own g c = owns_behind c.events.invariant.moves (c.in-Ok.ensures.own (no_end c.in-Ok.ensures.ok.leads c.args.opened c.events.invariant.inside))

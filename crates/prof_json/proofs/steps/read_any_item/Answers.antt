@@ -13,6 +13,8 @@ use Rattle.prof_json.proofs.Standing as st
 use Rattle.prof_json.proofs.Turns.{blank_over, value_cut}
 use Rattle.prof_json.proofs.Written.{writes_goes, writes_on, writes_fault}
 use Rattle.prof_json.proofs.Enclosing.{steps_last_item, value_steps, takes_item}
+use Rattle.prof_json.proofs.Journeys.{on_ok_map}
+use Rattle.prof_json.proofs.Owning.{owns_byte, owns_behind}
 use Rattle.prof_json.proofs.steps.read_any_item.Goals as goal
 
 pub returns-then-first-eq93-clause-moves : goal.returns-then-first-eq93-clause-moves
@@ -74,3 +76,11 @@ returns-clause-exact g c = λ begun h.
     let comma = goes_byte 44 next c.pass.ensures (blank_over (symbol more_items ∷ outer) 44 refl ∙ st.more_items_comma outer) few in
     let value = rw (st.in_array w) at c.read_value.ensures.exact begun h in
     rw (st.in_array w) (writes_on (goes_trans needed comma) value)
+
+pub returns-then-first-eq93-clause-own : goal.returns-then-first-eq93-clause-own
+returns-then-first-eq93-clause-own g c =
+    let next : IsNext 93 c.need_behind_blank.new.input = rw c.if-first-eq93.true at c.in_ok-first.ensures.byte in
+    owns_behind c.in_ok-first.ensures.moves (owns_byte _ next refl c.close_bracket.ensures.passed)
+
+pub returns-clause-own : goal.returns-clause-own
+returns-clause-own g c = on_ok_map c.read_value.result (λ k. owns_behind (moves_pass c.in_ok-first.ensures.moves c.pass.ensures) k) c.read_value.ensures.own

@@ -14,6 +14,8 @@ use Rattle.prof_json.proofs.Standing as st
 use Rattle.prof_json.proofs.Turns.{blank_over, value_cut}
 use Rattle.prof_json.proofs.Written.{writes_goes, writes_on, writes_fault}
 use Rattle.prof_json.proofs.Enclosing.{steps_no_items, value_steps}
+use Rattle.prof_json.proofs.Journeys.{on_ok_map}
+use Rattle.prof_json.proofs.Owning.{owns_byte, owns_behind}
 use Rattle.prof_json.proofs.steps.read_first_item.Goals as goal
 
 pub returns-then-first-eq93-clause-moves : goal.returns-then-first-eq93-clause-moves
@@ -61,3 +63,11 @@ returns-clause-exact g c = λ begun h.
     let needed = c.in_ok-first.ensures.exact (symbol items ∷ outer) few (value_cut items outer) in
     let begins = blank_over (symbol items ∷ outer) first c.in_ok-first.ensures.behind ∙ st.items_value outer first c.if-first-eq93.false in
     rw (st.in_array w) (writes_on needed (c.begin_value.ensures.exact begun (blank ∷ symbol items ∷ outer) (rw (st.in_array w) begins) h))
+
+pub returns-then-first-eq93-clause-own : goal.returns-then-first-eq93-clause-own
+returns-then-first-eq93-clause-own g c =
+    let next : IsNext 93 c.need_behind_blank.new.input = rw c.if-first-eq93.true at c.in_ok-first.ensures.byte in
+    owns_behind c.in_ok-first.ensures.moves (owns_byte _ next refl c.close_bracket.ensures.passed)
+
+pub returns-clause-own : goal.returns-clause-own
+returns-clause-own g c = on_ok_map c.begin_value.result (λ k. owns_behind c.in_ok-first.ensures.moves k) c.begin_value.ensures.own

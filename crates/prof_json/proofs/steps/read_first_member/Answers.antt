@@ -13,6 +13,8 @@ use Rattle.prof_json.proofs.Standing as st
 use Rattle.prof_json.proofs.Turns.{blank_over, value_cut}
 use Rattle.prof_json.proofs.Written.{writes_goes, writes_on, writes_fault}
 use Rattle.prof_json.proofs.Enclosing.{steps_no_members, first_names}
+use Rattle.prof_json.proofs.Journeys.{on_ok_map}
+use Rattle.prof_json.proofs.Owning.{owns_byte, owns_behind}
 use Rattle.prof_json.proofs.steps.read_first_member.Goals as goal
 
 pub returns-then-first-eq125-clause-moves : goal.returns-then-first-eq125-clause-moves
@@ -61,3 +63,11 @@ returns-clause-exact g c = λ begun h.
     let needed = c.in_ok-first.ensures.exact (symbol members ∷ outer) few (value_cut members outer) in
     let named = st.takes_first_name w first c.in_ok-first.ensures.behind c.if-first-eq125.false in
     rw (st.in_object w) (writes_on needed (c.read_name.ensures.exact begun (blank ∷ symbol members ∷ outer) xs named h c.requires.few))
+
+pub returns-then-first-eq125-clause-own : goal.returns-then-first-eq125-clause-own
+returns-then-first-eq125-clause-own g c =
+    let next : IsNext 125 c.need_behind_blank.new.input = rw c.if-first-eq125.true at c.in_ok-first.ensures.byte in
+    owns_behind c.in_ok-first.ensures.moves (owns_byte _ next refl c.close_bracket.ensures.passed)
+
+pub returns-clause-own : goal.returns-clause-own
+returns-clause-own g c = on_ok_map c.read_name.result (λ k. owns_behind c.in_ok-first.ensures.moves k) c.read_name.ensures.own

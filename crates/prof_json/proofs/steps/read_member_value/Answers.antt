@@ -12,6 +12,8 @@ use Rattle.prof_json.proofs.Standing as st
 use Rattle.prof_json.proofs.Turns.{blank_over, word_cut, word_last, word_wrong}
 use Rattle.prof_json.proofs.Written.{writes_on, writes_fault}
 use Rattle.prof_json.proofs.Enclosing.{value_steps}
+use Rattle.prof_json.proofs.Journeys.{on_ok_map}
+use Rattle.prof_json.proofs.Owning.{owns_behind}
 use Rattle.prof_json.proofs.steps.read_member_value.Goals as goal
 
 pub returns-clause-moves : goal.returns-clause-moves
@@ -48,3 +50,6 @@ returns-clause-exact g c = λ begun h.
     let next : IsNext 58 c.need_behind_blank.new.input = rw c.if-first-ne58.false at c.in_ok-first.ensures.byte in
     let colon = goes_byte 58 next c.pass.ensures (blank_over (word (58 ∷ []) a_colon ∷ ps) 58 refl ∙ word_last 58 a_colon ps) (st.behind_few xs c.requires.few) in
     writes_on (goes_trans needed colon) (c.read_value.ensures.exact begun h)
+
+pub returns-clause-own : goal.returns-clause-own
+returns-clause-own g c = on_ok_map c.read_value.result (λ k. owns_behind (moves_pass c.in_ok-first.ensures.moves c.pass.ensures) k) c.read_value.ensures.own

@@ -9,12 +9,13 @@ use Rattle.prof_json.proofs.Journeys.{moves_here, moves_pass}
 use Rattle.prof_json.proofs.Standing as st
 use Rattle.prof_json.proofs.Texts.{gains_on}
 use Rattle.prof_json.proofs.Written.{writes_goes}
+use Rattle.prof_json.proofs.Owning.{plain_own, more_own, owns_run}
 use Rattle.prof_json.proofs.steps.read_next_item.Goals as goal
 
 pub returns-then-branch-clause-moves : goal.returns-then-branch-clause-moves
 returns-then-branch-clause-moves g c =
     let r = c.in_ok-read_plain_item.ensures.item (ap Ok c.if-branch.true) in
-    moves_pass (moves_here _ _ _) r.passed
+    moves_pass (moves_here _ _) r.passed
 
 pub returns-then-branch-clause-ok : goal.returns-then-branch-clause-ok
 returns-then-branch-clause-ok g c =
@@ -30,3 +31,8 @@ returns-then-branch-clause-exact g c = λ begun h.
     let few = c.requires.few in
     writes_goes (told_by (Ok Number)) (λ t. behind xs) r.text (gains_on h r.kept)
     (goes_item (behind w.outer) r.text r.shown (st.in_array w) (st.behind_is xs few) (st.behind_few xs few) r.plain r.ahead r.passed r.next r.follows)
+
+pub returns-then-branch-clause-own : goal.returns-then-branch-clause-own
+returns-then-branch-clause-own g c =
+    let r = c.in_ok-read_plain_item.ensures.item (ap Ok c.if-branch.true) in
+    owns_run _ (more_own 44 (plain_own r.plain)) r.ahead r.passed

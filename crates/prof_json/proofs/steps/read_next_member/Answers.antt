@@ -13,6 +13,8 @@ use Rattle.prof_json.proofs.Standing as st
 use Rattle.prof_json.proofs.Turns.{blank_over, value_cut}
 use Rattle.prof_json.proofs.Written.{writes_goes, writes_on, writes_fault}
 use Rattle.prof_json.proofs.Enclosing.{steps_last_member, next_names}
+use Rattle.prof_json.proofs.Journeys.{on_ok_map}
+use Rattle.prof_json.proofs.Owning.{owns_byte, owns_behind}
 use Rattle.prof_json.proofs.steps.read_next_member.Goals as goal
 
 pub returns-then-first-eq125-clause-moves : goal.returns-then-first-eq125-clause-moves
@@ -97,3 +99,11 @@ returns-clause-exact g c = λ begun h.
     let quote = goes_trans (goes_trans needed comma) (c.in_ok-quote.ensures.exact (symbol member ∷ ps) few (value_cut member ps)) in
     let named = st.takes_next_name w c.in_ok-quote.quote c.in_ok-quote.ensures.behind in
     rw (st.in_object w) (writes_on quote (c.read_name.ensures.exact begun (blank ∷ symbol member ∷ ps) xs named h c.requires.few))
+
+pub returns-then-first-eq125-clause-own : goal.returns-then-first-eq125-clause-own
+returns-then-first-eq125-clause-own g c =
+    let next : IsNext 125 c.need_behind_blank.new.input = rw c.if-first-eq125.true at c.in_ok-first.ensures.byte in
+    owns_behind c.in_ok-first.ensures.moves (owns_byte _ next refl c.close_bracket.ensures.passed)
+
+pub returns-clause-own : goal.returns-clause-own
+returns-clause-own g c = on_ok_map c.read_name.result (λ k. owns_behind (moves_trans (moves_pass c.in_ok-first.ensures.moves c.pass.ensures) c.in_ok-quote.ensures.moves) k) c.read_name.ensures.own

@@ -7,6 +7,8 @@ use Rattle.prof_json.proofs.Journeys.{moves_trans}
 use Rattle.prof_json.proofs.Standing as st
 use Rattle.prof_json.proofs.Written.{writes_on}
 use Rattle.prof_json.proofs.Enclosing.{value_steps}
+use Rattle.prof_json.proofs.Journeys.{on_ok_map}
+use Rattle.prof_json.proofs.Owning.{owns_behind}
 use Rattle.prof_json.proofs.steps.read_start.Goals as goal
 
 pub returns-clause-moves : goal.returns-clause-moves
@@ -19,3 +21,6 @@ pub returns-clause-exact : goal.returns-clause-exact
 returns-clause-exact g c = λ begun h.
     let xs = c.args.brackets.now.items in
     writes_on (c.in_ok-pass_mark.ensures.exact (blank ∷ symbol value ∷ behind xs) (st.behind_few xs c.requires.few)) (c.read_value.ensures.exact begun h)
+
+pub returns-clause-own : goal.returns-clause-own
+returns-clause-own g c = on_ok_map c.read_value.result (λ k. owns_behind c.in_ok-pass_mark.ensures.moves k) c.read_value.ensures.own

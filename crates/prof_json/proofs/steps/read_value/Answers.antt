@@ -7,6 +7,8 @@ use Rattle.prof_json.proofs.Journeys.{moves_trans}
 use Rattle.prof_json.proofs.Standing as st
 use Rattle.prof_json.proofs.Turns.{blank_over, value_cut}
 use Rattle.prof_json.proofs.Written.{writes_on, writes_fault}
+use Rattle.prof_json.proofs.Journeys.{on_ok_map}
+use Rattle.prof_json.proofs.Owning.{owns_behind}
 use Rattle.prof_json.proofs.steps.read_value.Goals as goal
 
 pub returns-clause-moves : goal.returns-clause-moves
@@ -26,3 +28,6 @@ returns-clause-exact g c = λ begun h.
     let first = c.in_ok-first.first in
     writes_on (c.in_ok-first.ensures.exact ps (st.behind_few xs c.requires.few) (value_cut value (behind xs)))
     (c.begin_value.ensures.exact begun (blank ∷ ps) (blank_over ps first c.in_ok-first.ensures.behind ∙ st.value_step (behind xs) first) h)
+
+pub returns-clause-own : goal.returns-clause-own
+returns-clause-own g c = on_ok_map c.begin_value.result (λ k. owns_behind c.in_ok-first.ensures.moves k) c.begin_value.ensures.own

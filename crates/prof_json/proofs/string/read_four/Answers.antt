@@ -16,19 +16,19 @@ pub returns-in_err-second-clause-moves : goal.returns-in_err-second-clause-moves
 returns-in_err-second-clause-moves g c =
     let r = c.from_residual in
     let p = err_from_is_err_and r.result r.ensures.1 in
-    rw (p.1, p.2) (moves_trans (moves_pass (moves_here _ _ _) c.pass.ensures) c.in_err-second.ensures.moves)
+    rw (p.1, p.2) (moves_trans (moves_pass (moves_here _ _) c.pass.ensures) c.in_err-second.ensures.moves)
 
 pub returns-in_err-third-clause-moves : goal.returns-in_err-third-clause-moves
 returns-in_err-third-clause-moves g c =
     let r = c.from_residual-in_err-third in
     let p = err_from_is_err_and r.result r.ensures.1 in
-    rw (p.1, p.2) (moves_trans (moves_trans (moves_pass (moves_here _ _ _) c.pass.ensures) c.in_ok-second.ensures.moves) c.in_err-third.ensures.moves)
+    rw (p.1, p.2) (moves_trans (moves_trans (moves_pass (moves_here _ _) c.pass.ensures) c.in_ok-second.ensures.moves) c.in_err-third.ensures.moves)
 
 pub returns-in_err-fourth-clause-moves : goal.returns-in_err-fourth-clause-moves
 returns-in_err-fourth-clause-moves g c =
     let r = c.from_residual-in_err-fourth in
     let p = err_from_is_err_and r.result r.ensures.1 in
-    rw (p.1, p.2) (moves_trans (moves_trans (moves_trans (moves_pass (moves_here _ _ _) c.pass.ensures) c.in_ok-second.ensures.moves) c.in_ok-third.ensures.moves) c.in_err-fourth.ensures.moves)
+    rw (p.1, p.2) (moves_trans (moves_trans (moves_trans (moves_pass (moves_here _ _) c.pass.ensures) c.in_ok-second.ensures.moves) c.in_ok-third.ensures.moves) c.in_err-fourth.ensures.moves)
 
 pub push-requires : goal.push-requires
 push-requires g c =
@@ -42,7 +42,7 @@ push-requires g c =
 pub returns-clause-moves : goal.returns-clause-moves
 returns-clause-moves g c =
     moves_push c.push.result c.push.ensures.err
-    (moves_trans (moves_trans (moves_trans (moves_pass (moves_here _ _ _) c.pass.ensures) c.in_ok-second.ensures.moves) c.in_ok-third.ensures.moves) c.in_ok-fourth.ensures.moves)
+    (moves_trans (moves_trans (moves_trans (moves_pass (moves_here _ _) c.pass.ensures) c.in_ok-second.ensures.moves) c.in_ok-third.ensures.moves) c.in_ok-fourth.ensures.moves)
 
 pub returns-clause-further : goal.returns-clause-further
 returns-clause-further g c =

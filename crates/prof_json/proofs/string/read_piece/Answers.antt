@@ -7,7 +7,7 @@ pub returns-in_err-push_lone-clause-moves : goal.returns-in_err-push_lone-clause
 returns-in_err-push_lone-clause-moves g c =
     let r = c.from_residual in
     let p = err_from_is_err_and r.result r.ensures.1 in
-    rw (p.1, p.2) (moves_full c.in_err-push_lone.ensures.err (moves_here _ _ _))
+    rw (p.1, p.2) (moves_full c.in_err-push_lone.ensures.err (moves_here _ _))
 
 pub returns-in_err-read_themselves-clause-exact : goal.returns-in_err-read_themselves-clause-exact
 returns-in_err-read_themselves-clause-exact g c = λ begun k s ps h d.

@@ -2,14 +2,15 @@ use Rattle.std.proofs.Common.{[], ◌∷◌, refl}
 use Rattle.std.specs.Prelude.{None}
 use Rattle.prof_grammar.specs.Machine.{chars, nothing, settled, told}
 use Rattle.prof_json.specs.Ahead.{IsNext}
-use Rattle.prof_json.proofs.Journeys.{moves_trans, moves_pass, moves_here, moves_push, on_ok_map, smaller_behind}
+use Rattle.prof_json.proofs.Journeys.{moves_trans, moves_pass, moves_here, moves_push, on_ok, on_ok_map, smaller_behind}
 use Rattle.prof_json.proofs.Machines.{goes_trans, goes_byte}
 use Rattle.prof_json.proofs.Turns as t
 use Rattle.prof_json.proofs.Written.{writes_here, writes_on, writes_fault, writes_if}
+use Rattle.prof_json.proofs.Owning.{owns_byte, owns_behind}
 use Rattle.prof_json.proofs.string.read_string.Goals as goal
 
 pub pieces-init : goal.pieces-init
-pieces-init g c = record { moves = moves_here _ _ _; exact = λ begun k s ps h d. writes_here (λ t. chars k t None nothing ∷ ps) s h; waits = tt }
+pieces-init g c = record { moves = moves_here _ _; exact = λ begun k s ps h d. writes_here (λ t. chars k t None nothing ∷ ps) s h; waits = tt }
 
 pub returns-in-Err-clause-moves : goal.returns-in-Err-clause-moves
 returns-in-Err-clause-moves g c = moves_trans c.pieces.invariant.moves c.in-Err.ensures.moves
@@ -57,3 +58,8 @@ pieces-preserved g c = record {
       writes_on needed (c.in-Ok-read_piece.ensures.exact begun k w.text ps (w.kept refl) d);
   waits = c.in-Ok-read_piece.ensures.waits;
 }
+
+pub returns-then-first-eq34-clause-own : goal.returns-then-first-eq34-clause-own
+returns-then-first-eq34-clause-own g c =
+    let next : IsNext 34 c.need.new.self = rw c.if-first-eq34.true at c.in-Ok.ensures.byte in
+    on_ok c.push_lone.result (owns_behind (moves_trans c.pieces.invariant.moves c.in-Ok.ensures.moves) (owns_byte _ next refl c.pass.ensures))

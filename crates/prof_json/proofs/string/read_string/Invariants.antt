@@ -6,14 +6,13 @@ use Rattle.prof_grammar.specs.Reading.{max_depth}
 use Rattle.prof_grammar.specs.Told.{depth}
 use Rattle.prof_json.specs.Writes.{Writes, silent}
 use Rattle.prof_json.specs.Kept.{Kept, Gains}
-use Rattle.prof_json.specs.Moves.{Moves, lent}
+use Rattle.prof_io.specs.Outside.{seen}
+use Rattle.prof_json.specs.Moves.{Moves}
 use Rattle.prof_json.proofs.string.read_string.Given as goal
 
 abbrev pub invariant-pieces : goal.invariant-pieces
 invariant-pieces g l = record {
-  moves : Moves None
-      (g.S.Counted.sure l.fn.src) l.fn.input (lent (g.S.Counted.left l.fn.src) (g.S.Counted.written l.fn.src) (g.S.Counted.place l.fn.src) (g.S.Counted.faults l.fn.src))
-      (g.S.Counted.sure l.src) l.input (lent (g.S.Counted.left l.src) (g.S.Counted.written l.src) (g.S.Counted.place l.src) (g.S.Counted.faults l.src));
+  moves : Moves None l.fn.input (seen g.S.Counted l.fn.src) l.input (seen g.S.Counted l.src);
   exact : (begun : Kept) (k : Role) (s : List ℕ) (ps : List Part) → Gains begun s l.fn.text → depth ps ≤ max_depth →
       Writes None begun l.fn.input (g.S.Counted.left l.fn.src) (chars k s None nothing ∷ ps) silent l.input (g.S.Counted.left l.src) l.text (λ t. chars k t l.high nothing ∷ ps);
   waits : IfSome l.high (λ u. is_high_surrogate u ≡ true);

@@ -13,7 +13,7 @@ pub returns-then-first-lt128-clause-further : goal.returns-then-first-lt128-clau
 returns-then-first-lt128-clause-further g c = on_ok_map c.read_plain.result (λ h. let p = h.1 in let q = h.2.place in omega arith) c.read_plain.ensures.run
 
 pub returns-then-first-lt194-clause-moves : goal.returns-then-first-lt194-clause-moves
-returns-then-first-lt194-clause-moves g c = moves_wrong c.wrong.ensures (moves_here _ _ _)
+returns-then-first-lt194-clause-moves g c = moves_wrong c.wrong.ensures (moves_here _ _)
 
 pub returns-then-first-lt194-clause-exact : goal.returns-then-first-lt194-clause-exact
 returns-then-first-lt194-clause-exact g c = λ begun k s p ps h d.

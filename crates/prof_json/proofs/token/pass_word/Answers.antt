@@ -1,4 +1,4 @@
-use Rattle.std.proofs.Common.{◌≡◌, ◌<◌, ℕ, List, [], ◌∷◌, suc, length, drop, get_or, sym, subst, arith, add-one}
+use Rattle.std.proofs.Common.{◌≡◌, ◌<◌, ℕ, List, [], ◌∷◌, suc, length, take, drop, get_or, sym, subst, arith, add-one}
 use Rattle.std.specs.Prelude.{None, Option}
 use Rattle.std.proofs.Math.Seq.{drop-cons}
 use Rattle.std.proofs.lemmas.Grind.{common_steps}
@@ -8,6 +8,7 @@ use Rattle.prof_json.specs.Goes.{Goes, behind_word}
 use Rattle.prof_json.proofs.Journeys.{moves_trans, moves_pass, moves_here, moves_wrong}
 use Rattle.prof_json.proofs.Machines.{goes_trans, goes_here, goes_byte, goes_wrong, goes_as}
 use Rattle.prof_json.proofs.Turns.{told_up, told_up_all, told_up_next, letter_on, letter_depth, word_cut, word_wrong}
+use Rattle.prof_json.proofs.Owning.{off_none, off_more}
 use Rattle.prof_json.proofs.token.pass_word.Goals as goal
 
 -- where a letter is still to come
@@ -18,8 +19,9 @@ at_letter {a} {b} {l} {m} whole i w ps h g =
 
 pub loop-letter-init : goal.loop-letter-init
 loop-letter-init g c = record {
-  moves = moves_here _ _ _;
+  moves = moves_here _ _;
   exact = λ w ps d. rw (told_up_all c.args.word.now w) (goes_here _ _ _);
+  read = off_none _ _;
   count = omega arith;
 }
 
@@ -62,6 +64,7 @@ loop-letter-preserved g c =
           let went = goes_trans (at_letter whole i w ps here (c.loop-letter.invariant.exact w ps d))
           (goes_trans (c.in-Ok.ensures.exact next (word_cut _ w ps)) (goes_byte (get_or whole i 0) shown c.pass.ensures (letter_on (get_or whole i 0) (drop (suc i) whole) w ps) (letter_depth (drop (suc i) whole) w ps d))) in
           rw (add-one, sym (told_up_next whole i (get_or whole i 0) (drop (suc i) whole) w (drop-cons whole i 0 here))) went;
+      read = off_more whole i here c.loop-letter.invariant.read c.in-Ok.ensures.same (rw is at c.in-Ok.ensures.byte) c.pass.ensures;
       count = omega arith;
     }
 
@@ -69,3 +72,8 @@ pub returns-clause-exact : goal.returns-clause-exact
 returns-clause-exact g c = λ w ps d.
     let all : drop c.loop-letter.letter-index c.args.word.now ≡ [] = grind (arith, common_steps) in
     rw all at (c.loop-letter.invariant.exact w ps d)
+
+pub returns-clause-read : goal.returns-clause-read
+returns-clause-read g c =
+    let all : take c.loop-letter.letter-index c.args.word.now ≡ c.args.word.now = grind (arith, common_steps) in
+    rw all at c.loop-letter.invariant.read

@@ -25,7 +25,7 @@ blanks-smaller g c =
     smaller c.blanks.input c.peek.new.self c.pass.new.self c.blank_len-run.result c.in-Ok-Some.ensures.moves.on c.in-Ok-Some.ensures.moves.limit many c.pass.ensures
 
 pub blanks-init : goal.blanks-init
-blanks-init g c = record { moves = moves_here _ _ _; exact = λ ps d. goes_here _ _ _ }
+blanks-init g c = record { moves = moves_here _ _; exact = λ ps d. goes_here _ _ _ }
 
 pub blanks-preserved : goal.blanks-preserved
 blanks-preserved g c = record {

@@ -4,14 +4,13 @@ use Rattle.prof_grammar.specs.Reading.{max_depth}
 use Rattle.prof_grammar.specs.Told.{depth}
 use Rattle.prof_json.specs.Goes.{Goes}
 use Rattle.std.specs.Prelude.{None}
-use Rattle.prof_json.specs.Moves.{Moves, lent}
+use Rattle.prof_io.specs.Outside.{seen}
+use Rattle.prof_json.specs.Moves.{Moves}
 use Rattle.prof_json.proofs.token.skip_blank.Given as goal
 
 abbrev pub invariant-blanks : goal.invariant-blanks
 invariant-blanks g l = record {
-  moves : Moves None
-      (g.S.Counted.sure l.fn.src) l.fn.input (lent (g.S.Counted.left l.fn.src) (g.S.Counted.written l.fn.src) (g.S.Counted.place l.fn.src) (g.S.Counted.faults l.fn.src))
-      (g.S.Counted.sure l.src) l.input (lent (g.S.Counted.left l.src) (g.S.Counted.written l.src) (g.S.Counted.place l.src) (g.S.Counted.faults l.src));
+  moves : Moves None l.fn.input (seen g.S.Counted l.fn.src) l.input (seen g.S.Counted l.src);
   exact : (ps : List Part) → depth ps ≤ max_depth → Goes None l.fn.input (g.S.Counted.left l.fn.src) (blank ∷ ps) [] l.input (g.S.Counted.left l.src) (blank ∷ ps);
 }
 

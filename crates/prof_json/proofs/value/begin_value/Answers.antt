@@ -1,5 +1,5 @@
 use Rattle.std.proofs.Common.{◌≡◌, ◌≢◌, List, [], ◌∷◌, ◌++◌, ◌≤◌, false, refl, sym, subst, ◌∙◌, lit<, arith, length}
-use Rattle.std.specs.Prelude.{None, ◌==◌, ◌||◌}
+use Rattle.std.specs.Prelude.{None, ◌==◌, ◌||◌, codes}
 use Rattle.std.proofs.lemmas.Grind.{common_steps}
 use Rattle.prof_grammar.specs.Machine.{class, step, a_true, a_false, a_null, as_value}
 use Rattle.prof_json.specs.Ahead.{IsNext}
@@ -16,28 +16,29 @@ use Rattle.std.specs.Prelude.{Ok}
 use Rattle.prof_json.specs.declared.nesting.Bracket.{Bracket}
 use Rattle.prof_json.specs.declared.nesting.Bracket.TheVariants.{Array, Object}
 use Rattle.prof_json.specs.declared.answer.Event.TheVariants.{ArrayStart, ObjectStart, Number, True, False, Null}
+use Rattle.prof_json.proofs.Owning.{HasOwn, owns_byte, owns_passed, owns_word}
 use Rattle.prof_json.proofs.value.begin_value.Goals as goal
 
 pub returns-in_err-read_string-in-34-clause-moves : goal.returns-in_err-read_string-in-34-clause-moves
 returns-in_err-read_string-in-34-clause-moves g c =
     let r = c.from_residual-in_err-read_string-in-34 in
     let p = err_from_is_err_and r.result r.ensures.1 in
-    rw (p.1, p.2) (moves_trans (moves_pass (moves_here _ _ _) c.pass.ensures) c.in_err-read_string-in-34.ensures.moves)
+    rw (p.1, p.2) (moves_trans (moves_pass (moves_here _ _) c.pass.ensures) c.in_err-read_string-in-34.ensures.moves)
 
 pub returns-in_ok-open_bracket-in-91-clause-moves : goal.returns-in_ok-open_bracket-in-91-clause-moves
-returns-in_ok-open_bracket-in-91-clause-moves g c = moves_pass (moves_here _ _ _) c.in_ok-open_bracket-in-91.ensures.ok.0
+returns-in_ok-open_bracket-in-91-clause-moves g c = moves_pass (moves_here _ _) c.in_ok-open_bracket-in-91.ensures.ok.0
 
 pub returns-in_ok-open_bracket-in-91-clause-ok : goal.returns-in_ok-open_bracket-in-91-clause-ok
 returns-in_ok-open_bracket-in-91-clause-ok g c = let h = c.in_ok-open_bracket-in-91.ensures.ok in begins_array h.1 h.2 h.0
 
 pub returns-in_ok-open_bracket-in-123-clause-moves : goal.returns-in_ok-open_bracket-in-123-clause-moves
-returns-in_ok-open_bracket-in-123-clause-moves g c = moves_pass (moves_here _ _ _) c.in_ok-open_bracket-in-123.ensures.ok.0
+returns-in_ok-open_bracket-in-123-clause-moves g c = moves_pass (moves_here _ _) c.in_ok-open_bracket-in-123.ensures.ok.0
 
 pub returns-in_ok-open_bracket-in-123-clause-ok : goal.returns-in_ok-open_bracket-in-123-clause-ok
 returns-in_ok-open_bracket-in-123-clause-ok g c = let h = c.in_ok-open_bracket-in-123.ensures.ok in begins_object h.1 h.2 h.0
 
 pub returns-in_ok-read_string-in-34-clause-moves : goal.returns-in_ok-read_string-in-34-clause-moves
-returns-in_ok-read_string-in-34-clause-moves g c = moves_trans (moves_pass (moves_here _ _ _) c.pass.ensures) c.in_ok-read_string-in-34.ensures.moves
+returns-in_ok-read_string-in-34-clause-moves g c = moves_trans (moves_pass (moves_here _ _) c.pass.ensures) c.in_ok-read_string-in-34.ensures.moves
 
 pub returns-in_ok-read_string-in-34-clause-ok : goal.returns-in_ok-read_string-in-34-clause-ok
 returns-in_ok-read_string-in-34-clause-ok g c =
@@ -180,3 +181,34 @@ returns-in_default-2-clause-exact g c = λ begun qs e h.
     let n6 : b ≢ 110 = grind (arith, common_steps) in
     let no : ((b == 45) || is_digit b) ≡ false = sym c.begins_number.ensures ∙ c.if-begins_number.false in
     writes_fault (goes_wrong {b = c.args.input.now} {m = None} {qs = qs} {es = []} b c.requires.next (e ∙ st.begins_none b (behind c.args.brackets.now.items) n1 n2 n3 n4 n5 n6 (st.no_minus b no) (st.no_digit b no)) c.wrong.ensures)
+
+pub returns-in_ok-open_bracket-in-91-clause-own : goal.returns-in_ok-open_bracket-in-91-clause-own
+returns-in_ok-open_bracket-in-91-clause-own g c =
+    let next : IsNext 91 c.args.input.now = rw c.in-91.is at c.requires.next in
+    owns_byte _ next refl c.in_ok-open_bracket-in-91.ensures.ok.0
+
+pub returns-in_ok-open_bracket-in-123-clause-own : goal.returns-in_ok-open_bracket-in-123-clause-own
+returns-in_ok-open_bracket-in-123-clause-own g c =
+    let next : IsNext 123 c.args.input.now = rw c.in-123.is at c.requires.next in
+    owns_byte _ next refl c.in_ok-open_bracket-in-123.ensures.ok.0
+
+pub returns-in_ok-read_string-in-34-clause-own : goal.returns-in_ok-read_string-in-34-clause-own
+returns-in_ok-read_string-in-34-clause-own g c = owns_passed c.pass.ensures c.in_ok-read_string-in-34.ensures.own
+
+true_own : HasOwn (codes "true")
+true_own = record { others = codes "tru"; last = 101; is = refl; own = refl }
+
+false_own : HasOwn (codes "false")
+false_own = record { others = codes "fals"; last = 101; is = refl; own = refl }
+
+null_own : HasOwn (codes "null")
+null_own = record { others = codes "nul"; last = 108; is = refl; own = refl }
+
+pub returns-in_ok-pass_word-in-116-clause-own : goal.returns-in_ok-pass_word-in-116-clause-own
+returns-in_ok-pass_word-in-116-clause-own g c = owns_word true_own c.in_ok-pass_word-in-116.ensures.read
+
+pub returns-in_ok-pass_word-in-102-clause-own : goal.returns-in_ok-pass_word-in-102-clause-own
+returns-in_ok-pass_word-in-102-clause-own g c = owns_word false_own c.in_ok-pass_word-in-102.ensures.read
+
+pub returns-in_ok-pass_word-in-110-clause-own : goal.returns-in_ok-pass_word-in-110-clause-own
+returns-in_ok-pass_word-in-110-clause-own g c = owns_word null_own c.in_ok-pass_word-in-110.ensures.read

@@ -1,7 +1,7 @@
 use Rattle.std.proofs.Common.{◌≡◌, ◌+◌, ◌<◌, length, drop, None, Some, sym, ap, ◌∙◌, arith, IfSome}
 use Rattle.prof_layer.specs.declared.focusing.Node.{Node}
 use Rattle.prof_layer.specs.Focusing.{end_above}
-use Rattle.prof_tables.proofs.RowLists.{all_at}
+use Rattle.prof_tables.proofs.RowLemmas.{all_at}
 use Rattle.prof_layer.proofs.FocusLaws.{end-none, end-other, end-last, end-more}
 use Rattle.prof_layer.proofs.focusing.end_above.Goals as goal
 

@@ -1,7 +1,7 @@
 use Rattle.std.proofs.Common.{◌≡◌, ℕ, List, [], Some, sym, ap, ◌∙◌}
 use Rattle.std.specs.Prelude.{slice_get}
 use Rattle.std.proofs.lemmas.Option.{none-some, get_or_from_slice_get, slice_get-get_or}
-use Rattle.prof_tables.specs.Texts.{first_place}
+use Rattle.prof_raw.specs.Texts.{first_place}
 use Rattle.prof_marker.specs.Markers.{name_text}
 use Rattle.prof_marker.proofs.Names.{first_there}
 use Rattle.prof_marker.proofs.drafts.first_of.Goals as goal

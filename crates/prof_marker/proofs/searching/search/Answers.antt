@@ -1,4 +1,4 @@
-use Rattle.std.proofs.Common.{◌<◌, get_or, ◌≡◌, pos, [], ◌∷◌, ◌++◌, length, map, string_bytes, sym, ap, subst, ◌∙◌, arith}
+use Rattle.std.proofs.Common.{◌<◌, get_or, ◌≡◌, pos, [], ◌∷◌, ◌++◌, length, map, sym, ap, subst, ◌∙◌, arith}
 use Rattle.std.specs.List.{All}
 use Rattle.std.proofs.lemmas.List.{take_all}
 use Rattle.prof_tables.specs.Threads.{MarkerRows}
@@ -38,7 +38,7 @@ pub loop-place-preserved : goal.loop-place-preserved
 loop-place-preserved c =
     let test = is_found c.strings-strings.result.now c.as_slice-texts.result.now c.args.terms.now c.args.ranges.now in
     let items = c.as_slice-marker-items.result.now in
-    let terms = ap (map string_bytes) c.in_ok-finds.ensures.terms ∙ c.loop-place.invariant.terms in
+    let terms = c.in_ok-finds.ensures.terms ∙ c.loop-place.invariant.terms in
     let found = c.in_ok-finds.ensures.value c.args.terms.now c.loop-place.invariant.terms in
     elim c.if-branch.branch [
       | then-branch+in_ok-push w ↦ record {

@@ -1,4 +1,4 @@
-use Rattle.std.proofs.Common.{get_or, ◌≡◌, pos, [], ◌∷◌, ◌++◌, length, map, take, string_bytes, sym, ap, subst, ◌∙◌}
+use Rattle.std.proofs.Common.{get_or, ◌≡◌, pos, [], ◌∷◌, ◌++◌, length, map, take, sym, ap, subst, ◌∙◌}
 use Rattle.std.specs.List.{All}
 use Rattle.std.proofs.lemmas.List.{take_all}
 use Rattle.prof_tables.specs.Threads.{MarkerRows}
@@ -38,7 +38,7 @@ loop-marker-preserved c =
     let test = is_found c.strings-strings.result.now c.as_slice-texts.result.now (terms_of c.args.search.now) [] in
     let items = c.as_slice-marker-items.result.now in
     let i = c.loop-marker.marker-index in
-    let terms = ap (map string_bytes) c.in_ok-finds.ensures.terms ∙ c.loop-marker.invariant.terms in
+    let terms = c.in_ok-finds.ensures.terms ∙ c.loop-marker.invariant.terms in
     let found = c.in_ok-finds.ensures.value (terms_of c.args.search.now) c.loop-marker.invariant.terms in
     elim c.if-branch.branch [
       | then-branch+in_ok-push w ↦ record {

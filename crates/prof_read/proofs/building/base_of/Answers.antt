@@ -2,7 +2,7 @@ use Rattle.std.proofs.Common.{◌≡◌, Option, sym, ◌∙◌, ap}
 use Rattle.std.specs.declared.rc.Rc.{Rc}
 use Rattle.std.specs.declared.alloc.Global.{Global}
 use Rattle.prof_tables.specs.declared.shared.Shared.{Shared}
-use Rattle.prof_tables.specs.declared.strings.Strings.{Strings}
+use Rattle.prof_raw.specs.declared.strings.Strings.{Strings}
 use Rattle.std.specs.Prelude.{codes}
 use Rattle.std.specs.Option.{option_map}
 use Rattle.prof_grammar.specs.Value.{field, last_named}

@@ -1,7 +1,7 @@
 use Rattle.std.proofs.Common.{◌≡◌, None, sym, ◌∙◌, ap}
-use Rattle.prof_tables.specs.Checks.{named}
-use Rattle.prof_tables.specs.declared.rule.Table.TheVariants as table
-use Rattle.prof_tables.specs.declared.rule.Column.TheVariants as column
+use Rattle.prof_raw.specs.Checks.{named}
+use Rattle.prof_raw.specs.declared.rule.Table.TheVariants as table
+use Rattle.prof_raw.specs.declared.rule.Column.TheVariants as column
 use Rattle.prof_layout.specs.Profile.{categories_member, categories_broken, category_names, default_category}
 use Rattle.prof_read.proofs.Refusing.{names, fault_none, both}
 use Rattle.prof_read.proofs.building.categories_of.Goals as goal

@@ -1,7 +1,7 @@
 use Rattle.std.proofs.Common.{sym}
 use denote.Enum.Bare.{sameb}
-use Rattle.prof_tables.specs.contracts.raw.State.{the_type}
-use Rattle.prof_tables.specs.declared.raw.State.TheVariants.{Absent}
+use Rattle.prof_raw.specs.contracts.raw.State.{the_type}
+use Rattle.prof_raw.specs.declared.raw.State.TheVariants.{Absent}
 use Rattle.prof_read.proofs.Standing.{there_by, common_held}
 use Rattle.std.proofs.Common.{refl}
 use Rattle.prof_read.proofs.building.common_strings.Goals as goal

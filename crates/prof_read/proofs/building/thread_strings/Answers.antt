@@ -1,7 +1,7 @@
 use Rattle.std.proofs.Common.{refl, sym}
 use denote.Enum.Bare.{sameb}
-use Rattle.prof_tables.specs.contracts.raw.State.{the_type}
-use Rattle.prof_tables.specs.declared.raw.State.TheVariants.{Absent}
+use Rattle.prof_raw.specs.contracts.raw.State.{the_type}
+use Rattle.prof_raw.specs.declared.raw.State.TheVariants.{Absent}
 use Rattle.prof_read.proofs.Standing.{absent_by, common_counts}
 use Rattle.prof_read.proofs.building.thread_strings.Goals as goal
 

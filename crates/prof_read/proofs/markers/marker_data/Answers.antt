@@ -1,5 +1,5 @@
 use Rattle.std.proofs.Common.{◌∙◌, ap}
-use Rattle.prof_tables.specs.declared.raw.State.{State}
+use Rattle.prof_raw.specs.declared.raw.State.{State}
 use Rattle.prof_read.specs.declared.lists.MarkerData.{MarkerData}
 use Rattle.prof_read.proofs.WholeLists.{markers_read, with_state}
 use Rattle.prof_read.proofs.markers.marker_data.Goals as goal

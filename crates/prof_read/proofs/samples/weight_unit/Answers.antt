@@ -2,7 +2,7 @@ use Rattle.std.proofs.Common.{subst, refl}
 use Rattle.prof_grammar.specs.Value.{Value}
 use Rattle.prof_json.specs.declared.answer.Event.{Event}
 use Rattle.prof_gather.specs.Feeding.{Gives}
-use Rattle.prof_read.proofs.ValuesRead.{reads-string, reads-null}
+use Rattle.prof_column.proofs.ValuesRead.{reads-string, reads-null}
 use Rattle.prof_read.proofs.samples.weight_unit.Goals as goal
 
 pub returns-in-Str-clause-unit : goal.returns-in-Str-clause-unit

@@ -1,4 +1,4 @@
-use Rattle.std.proofs.Common.{◌≡◌, ℕ, length}
+use Rattle.std.proofs.Common.{◌≡◌, length}
 use Rattle.std.specs.Prelude.{All}
 use Rattle.prof_tables.specs.Rows.{rows_of, frame_at}
 use Rattle.prof_tables.specs.Ties.{IsFrame}

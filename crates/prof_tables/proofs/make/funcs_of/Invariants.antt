@@ -1,6 +1,6 @@
-use Rattle.std.proofs.Common.{◌≡◌, ℕ, length}
+use Rattle.std.proofs.Common.{◌≡◌, length}
 use Rattle.std.specs.Prelude.{All}
-use Rattle.prof_tables.specs.Checks.{resource_count}
+use Rattle.prof_raw.specs.Checks.{resource_count}
 use Rattle.prof_tables.specs.Rows.{rows_of, func_at}
 use Rattle.prof_tables.specs.Ties.{IsFunc}
 use Rattle.prof_tables.proofs.make.funcs_of.Given as goal

@@ -1,4 +1,4 @@
-use Rattle.std.proofs.Common.{◌≡◌, ℕ, length}
+use Rattle.std.proofs.Common.{◌≡◌}
 use Rattle.prof_tables.specs.Rows.{rows_of, stack_frame_at}
 use Rattle.prof_tables.proofs.make.stack_frames_of.Given as goal
 

@@ -1,12 +1,11 @@
-use Rattle.std.proofs.Common.{◌≡◌, ℕ, ◌+◌, length, List, ap, ◌∙◌, sym, arith, [], ◌∷◌, ◌++◌}
-use Rattle.std.proofs.lemmas.Grind.{common_steps}
+use Rattle.std.proofs.Common.{◌∙◌}
 use Rattle.std.proofs.lemmas.List.Elements.{All-push}
 use Rattle.prof_tables.specs.Rows.{sample_at}
 use Rattle.prof_tables.specs.Ties.{IsSample}
 use Rattle.std.proofs.Common.{w64}
 use Rattle.std.proofs.lemmas.Int.{to_z-of_z}
-use Rattle.prof_tables.proofs.Ranges.{in_range-fits}
-use Rattle.prof_tables.proofs.Sampled.{next_rows, next_length, next_sum}
+use Rattle.prof_tables.proofs.RangeLemmas.{in_range-fits}
+use Rattle.prof_tables.proofs.SampleLemmas.{next_rows, next_length, next_sum}
 use Rattle.prof_tables.proofs.own.samples_of.Goals as goal
 
 pub loop-k-preserved : goal.loop-k-preserved

@@ -1,6 +1,6 @@
-use Rattle.std.proofs.Common.{◌≡◌, ℕ, length, true}
+use Rattle.std.proofs.Common.{◌≡◌, length, true}
 use Rattle.std.specs.Prelude.{All}
-use Rattle.prof_tables.specs.Moments.{sum_below}
+use Rattle.prof_raw.specs.Moments.{sum_below}
 use Rattle.prof_tables.specs.Rows.{rows_of, sample_at}
 use Rattle.prof_tables.specs.Ties.{IsSample}
 use Rattle.prof_tables.proofs.own.samples_of.Given as goal

@@ -1,4 +1,4 @@
-use Rattle.prof_tables.proofs.Checked.{shared_fit}
+use Rattle.prof_raw.proofs.CheckLemmas.{shared_fit}
 use Rattle.prof_tables.proofs.shared.Shared.make.Goals as goal
 
 pub of_checked-requires-clause-fit : goal.of_checked-requires-clause-fit

@@ -1,6 +1,6 @@
-use Rattle.std.proofs.Common.{◌≡◌, ◌<◌, ◌≤◌, ◌+◌, ℕ, length, List, ap, ◌∙◌, sym, subst, arith}
-use Rattle.prof_tables.specs.Cells.{SharedCells}
-use Rattle.prof_tables.proofs.SharedRows.{same_shared, shared_tied}
+use Rattle.std.proofs.Common.{◌≡◌, ◌≤◌, length, ap, ◌∙◌, arith}
+use Rattle.prof_raw.specs.Cells.{SharedCells}
+use Rattle.prof_tables.proofs.SharedLemmas.{same_shared, shared_tied}
 use Rattle.prof_tables.proofs.shared.Shared.of_checked.Goals as goal
 
 pub resources_of-requires : goal.resources_of-requires
@@ -18,26 +18,17 @@ frames_of-requires-clause-funcs c = c.requires.fit.funcs
 pub frames_of-requires-clause-frames : goal.frames_of-requires-clause-frames
 frames_of-requires-clause-frames c = c.requires.fit.frames
 
-pub stacks_of-requires-clause-default : goal.stacks_of-requires-clause-default
-stacks_of-requires-clause-default c = c.requires.default
-
 pub stacks_of-requires-clause-frames : goal.stacks_of-requires-clause-frames
 stacks_of-requires-clause-frames c = c.deref.ensures.value ∙ c.in_ok-frames.ensures.rows
 
-pub stacks_of-requires-clause-tied : goal.stacks_of-requires-clause-tied
-stacks_of-requires-clause-tied c = rw c.deref.ensures.value c.in_ok-frames.ensures.tied
-
-pub stacks_of-requires-clause-few_funcs : goal.stacks_of-requires-clause-few_funcs
-stacks_of-requires-clause-few_funcs c = c.requires.fit.funcs.few
-
 pub stacks_of-requires-clause-few_frames : goal.stacks_of-requires-clause-few_frames
-stacks_of-requires-clause-few_frames c = c.requires.fit.frames.few
+stacks_of-requires-clause-few_frames c = let few = c.requires.fit.frames.few in omega arith
 
 pub stacks_of-requires-clause-stacks : goal.stacks_of-requires-clause-stacks
 stacks_of-requires-clause-stacks c = c.requires.fit.stacks
 
 pub stack_frames_of-requires-clause-frames : goal.stack_frames_of-requires-clause-frames
-stack_frames_of-requires-clause-frames c = c.requires.fit.frames.few
+stack_frames_of-requires-clause-frames c = let few = c.requires.fit.frames.few in omega arith
 
 pub stack_frames_of-requires-clause-stacks : goal.stack_frames_of-requires-clause-stacks
 stack_frames_of-requires-clause-stacks c = c.requires.fit.stacks
@@ -57,7 +48,7 @@ invariant_of-result c =
     shared_tied c.args.categories c.args.default c.args.raw.now _ _ _ _ _ _
     texts c.in_ok-resources.ensures.rows c.in_ok-funcs.ensures.rows c.in_ok-frames.ensures.rows (c.of.ensures ∙ c.in_ok-rows.ensures.rows) c.in_ok-stack_frames.ensures.rows
     c.requires.default c.requires.fit c.in_ok-resources.ensures.count c.in_ok-funcs.ensures.count c.in_ok-frames.ensures.count
-    c.in_ok-resources.ensures.tied c.in_ok-funcs.ensures.tied c.in_ok-frames.ensures.tied (rw c.of.ensures c.in_ok-rows.ensures.steps)
+    c.in_ok-resources.ensures.tied c.in_ok-funcs.ensures.tied c.in_ok-frames.ensures.tied (rw c.of.ensures c.in_ok-rows.ensures.below)
 
 pub returns : goal.returns
 returns c =

@@ -20,7 +20,7 @@ wide w v low high e =
 
 pub add_weight-requires-clause-fits : goal.add_weight-requires-clause-fits
 add_weight-requires-clause-fits c =
-    let w = c.args.sample.weight in
+    let w = c.args.weight in
     let low : neg_ℤ (pos 9223372036854775808) ≤ℤ w = omega (arith, ints) in
     let high : w ≤ℤ pos 9223372036854775807 = omega (arith, ints) in
     let held = c.requires.held in
@@ -32,7 +32,7 @@ add_weight-requires-clause-fits c =
 
 pub returns-in-None : goal.returns-in-None
 returns-in-None c = λ stacks xs k few.
-    let w = c.args.sample.weight in
+    let w = c.args.weight in
     let low : neg_ℤ (pos 9223372036854775808) ≤ℤ w = omega (arith, ints) in
     let high : w ≤ℤ pos 9223372036854775807 = omega (arith, ints) in
     let s = c.args.self.now in
@@ -43,7 +43,7 @@ returns-in-None c = λ stacks xs k few.
 
 pub returns-in-Some : goal.returns-in-Some
 returns-in-Some c = λ stacks xs k few.
-    let w = c.args.sample.weight in
+    let w = c.args.weight in
     let low : neg_ℤ (pos 9223372036854775808) ≤ℤ w = omega (arith, ints) in
     let high : w ≤ℤ pos 9223372036854775807 = omega (arith, ints) in
     let s = c.args.self.now in

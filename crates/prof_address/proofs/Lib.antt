@@ -1,0 +1,10 @@
+pub mod Filters
+pub mod ByKind
+pub mod Lists
+pub mod Marks
+pub mod Examples
+pub mod RangeLemmas
+pub mod PartLemmas
+pub mod ViewLemmas
+pub mod WritingLemmas
+pub mod OutcomeLemmas

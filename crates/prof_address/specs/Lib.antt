@@ -1,0 +1,4 @@
+pub mod Transforms
+pub mod Views
+pub mod Parts
+pub mod Readings

@@ -1,0 +1,4 @@
+pub mod Adding
+pub mod TextLists
+pub mod ValuesRead
+pub mod WholeCells

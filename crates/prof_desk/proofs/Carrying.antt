@@ -1,0 +1,327 @@
+-- Orders that are carried out step by step.
+use Rattle.std.proofs.Common.{◌≡◌, ◌≢◌, ◌<◌, ℕ, zero, suc, ◌+◌, ◌-◌, ◌≤◌, ◌^◌, min, List, [], ◌∷◌, ◌++◌, length, arith, Ok, Err, None, Some, Result, Option, IfSome, refl, length-append, ap, sym, ◌∙◌, subst, true, false, append_assoc, append-nil}
+use Rattle.std.specs.Prelude.{⊤}
+use Rattle.std.specs.Io.KnownBytes.{IsAtEnd}
+use Rattle.prof_io.specs.Causes.{Rose}
+use Rattle.prof_io.specs.Shelf.{Place, Served, Shelf}
+use Rattle.prof_io.specs.declared.copying.OutFault.{OutFault}
+use Rattle.prof_desk.specs.declared.breaks.Break.{Break}
+use Rattle.prof_desk.specs.declared.outcome.Stop.{Stop}
+use Rattle.prof_desk.specs.declared.outcome.Stop.TheVariants as stop
+use Rattle.prof_desk.specs.declared.status.Status.{Status}
+use Rattle.prof_desk.specs.declared.status.Status.TheVariants as status
+use Rattle.prof_desk.specs.declared.words.Order.{Order}
+use Rattle.prof_desk.specs.declared.words.WordRefusal.{WordRefusal}
+use Rattle.prof_desk.specs.declared.words.WordRefusal.TheVariants as refusal
+use Rattle.prof_desk.specs.declared.words.Order.TheVariants.{Tree}
+use Rattle.prof_desk.specs.Inputs.{Input, IsInput, IsBreak, IsBreakAt, IsThere, AreInputs, AreThere, name_at, text_in}
+use Rattle.prof_desk.specs.Orders.{Kind, can_end, files_of, least_of}
+use Rattle.prof_desk.specs.Outcomes.{Reads, begun_by, ended_by, stopped_by}
+use Rattle.prof_desk.specs.Output.{AreHandled, output_of, readings_of, responses_of}
+use Rattle.prof_io.specs.Outside.{Kept, Seen}
+use Rattle.prof_desk.specs.Playing.{Leaves}
+use Rattle.prof_desk.specs.Ran.{AreAnswered, Did, Does, Keeps, Outside, Ran, Serves, ServesAll, served_by}
+use Rattle.prof_io.specs.Sinks.{Wrote}
+use Rattle.prof_desk.specs.Telling.{refusal_status, told}
+use Rattle.prof_desk.specs.Ways.{Ways, no_ways}
+use Rattle.prof_writer.proofs.Outputs.{writes_none, writes_then, writes_ok}
+
+-- the file behind so many
+abbrev pub file_behind : List (Kind × List ℕ) → ℕ → Option (Kind × List ℕ)
+file_behind [] at = None
+file_behind (file ∷ files) zero = Some file
+file_behind (file ∷ files) (suc at) = file_behind files at
+
+the_file : {a b : Kind × List ℕ} → Some a ≡ Some b → a ≡ b
+the_file h = cc
+
+-- one more accepted file
+are_more : (place : Place) (files : List (Kind × List ℕ)) (inputs : List Input) (kind : Kind) (name : List ℕ) (input : Input)
+    → file_behind files (length inputs) ≡ Some (kind, name) → AreInputs place files inputs → IfSome (text_in place name) (λ bytes. IsInput kind bytes input)
+    → AreInputs place files (inputs ++ input ∷ [])
+are_more place [] [] kind name input e are is = absurd (cc)
+are_more place [] (x ∷ inputs) kind name input e are is = are
+are_more place (file ∷ files) [] kind name input e are is =
+    subst (λ (f : Kind × List ℕ). IfSome (text_in place f.1) (λ bytes. IsInput f.0 bytes input) × ⊤) (sym (the_file e)) (is, tt)
+are_more place (file ∷ files) (x ∷ inputs) kind name input e are is = (are.0, are_more place files inputs kind name input e are.1 is)
+
+-- the break is that of the next file
+break_at : (place : Place) (files : List (Kind × List ℕ)) (at : ℕ) (kind : Kind) (name : List ℕ) (b : Break)
+    → file_behind files at ≡ Some (kind, name) → IsBreak kind (text_in place name) b → IsBreakAt place files at b
+break_at place [] at kind name b e is = absurd (cc)
+break_at place (file ∷ files) zero kind name b e is = subst (λ (f : Kind × List ℕ). IsBreak f.0 (text_in place f.1) b) (sym (the_file e)) is
+break_at place (file ∷ files) (suc at) kind name b e is = break_at place files at kind name b e is
+
+-- the next file is there where all are
+there_at : (shelf : Option Shelf) (files : List (Kind × List ℕ)) (at : ℕ) (kind : Kind) (name : List ℕ)
+    → file_behind files at ≡ Some (kind, name) → AreThere shelf files → IsThere shelf name
+there_at shelf [] at kind name e all = absurd (cc)
+there_at shelf (file ∷ files) zero kind name e all = subst (λ (f : Kind × List ℕ). IsThere shelf f.1) (the_file e) all.0
+there_at shelf (file ∷ files) (suc at) kind name e all = there_at shelf files at kind name e all.1
+
+-- How far an order has come: these files were accepted, this was written, and so many stack rows were read at most.
+pub record SoFar (order : Order) (old new : Outside) (inputs : List Input) (text : List ℕ) (readings : ℕ) : Type 0 where
+  pub read : AreInputs old.files.place (files_of order) inputs
+  pub begins : min new.files.place.begins (2 ^ 64 - 1) ≡ min (old.files.place.begins + length inputs) (2 ^ 64 - 1)
+  pub shelf : new.files.place.files ≡ old.files.place.files
+  pub calm : new.files.faults ≡ old.files.faults
+  pub sure : old.files.sure → new.files.sure
+  pub written : Wrote {T = ⊤} {E = ⊤} old.out new.out (Ok tt) text
+  pub ended : 0 < length inputs → IsAtEnd new.files.left
+  pub read_rows : new.reads ≤ old.reads + readings
+
+-- at first nothing is read and nothing written
+pub starts : (order : Order) (old : Outside) → SoFar order old old [] [] 0
+starts order old = record {
+  read = tt;
+  begins = omega arith;
+  shelf = refl;
+  calm = refl;
+  sure = λ s. s;
+  written = writes_none old.out;
+  ended = λ f. absurd (no_less f);
+  read_rows = omega arith;
+}
+  where
+    no_less : 0 < 0 → ⊥
+    no_less f = omega (arith, f)
+
+-- a file more
+pub reads : {T : Type 0} (order : Order) (old now : Outside) (files : Seen) (inputs : List Input) (text : List ℕ) (k : ℕ) (input : T → Input) (kind : Kind) (name : List ℕ) (x : T)
+    → SoFar order old now inputs text k → file_behind (files_of order) (length inputs) ≡ Some (kind, name) → Reads input kind name now.files files (Ok x)
+    → SoFar order old (record { files = files; out = now.out; reads = now.reads }) (inputs ++ input x ∷ []) text k
+reads order old now files inputs text k input kind name x so e r = record {
+  read = are_more old.files.place (files_of order) inputs kind name (input x) e so.read (subst (λ (p : Option Shelf). IfSome (text_in (record (now.files.place) { files = p }) name) (λ bytes. IsInput kind bytes (input x))) so.shelf r.accepted);
+  begins = omega (arith, length-append inputs (input x ∷ []), so.begins, r.begins);
+  shelf = r.shelf ∙ so.shelf;
+  calm = r.calm ∙ so.calm;
+  sure = λ s. r.sure (so.sure s);
+  written = so.written;
+  ended = λ _. r.end;
+  read_rows = so.read_rows;
+}
+
+-- a text more, which took so many readings
+pub writes : {T E : Type 0} (order : Order) (old now : Outside) (out : Seen) (inputs : List Input) (text more : List ℕ) (k j rows : ℕ) (x : T)
+    → SoFar order old now inputs text k → Wrote {T = T} {E = E} now.out out (Ok x) more → rows ≤ now.reads + j
+    → SoFar order old (record { files = now.files; out = out; reads = rows }) inputs (text ++ more) (k + j)
+writes order old now out inputs text more k j rows x so w few = record {
+  read = so.read;
+  begins = so.begins;
+  shelf = so.shelf;
+  calm = so.calm;
+  sure = so.sure;
+  written = writes_ok (writes_then so.written w);
+  ended = so.ended;
+  read_rows = omega (arith, so.read_rows, few);
+}
+
+-- a file that isn't accepted
+pub stops : {T : Type 0} (order : Order) (old now : Outside) (files : Seen) (inputs : List Input) (text rest : List ℕ) (k : ℕ) (input : T → Input) (kind : Kind) (name : List ℕ) (s : Stop) (ways : Ways)
+    → SoFar order old now inputs text k → file_behind (files_of order) (length inputs) ≡ Some (kind, name) → Reads input kind name now.files files (Err s)
+    → output_of order inputs ways ≡ text ++ rest → k ≤ readings_of order inputs ways
+    → Did order inputs ways old (record { files = files; out = now.out; reads = now.reads }) (stopped_by (length inputs) s)
+stops order old now files inputs text rest k input kind name (stop.Broken b) ways so e r is few = record {
+  read = so.read;
+  accepted = refl;
+  least = omega arith;
+  can = refl;
+  begins = λ _. omega (arith, r.begins, so.begins);
+  break = λ _. break_at old.files.place (files_of order) (length inputs) kind name b e (subst (λ (p : Option Shelf). IsBreak kind (text_in (record (now.files.place) { files = p }) name) b) so.shelf r.refused.0);
+  fault = λ f. cc;
+  calm = λ _ _. r.refused.1 ∙ so.calm;
+  shelf = r.shelf ∙ so.shelf;
+  later = omega (arith, r.later, so.calm);
+  written = (text, rest, is, so.written);
+  readings = omega (arith, so.read_rows, few);
+  handled = λ f. cc;
+  ended = λ f. cc;
+  steady = λ _ _ f. cc;
+}
+stops order old now files inputs text rest k input kind name stop.FileFault ways so e r is few = record {
+  read = so.read;
+  accepted = refl;
+  least = omega arith;
+  can = refl;
+  begins = λ _. omega (arith, r.begins, so.begins);
+  break = λ f. cc;
+  fault = λ _. (subst (λ n. Rose n files.faults) (sym r.begun_at) r.refused, omega (arith, r.begun_at, so.calm));
+  calm = λ f _. absurd (f refl);
+  shelf = r.shelf ∙ so.shelf;
+  later = omega (arith, r.later, so.calm);
+  written = (text, rest, is, so.written);
+  readings = omega (arith, so.read_rows, few);
+  handled = λ f. cc;
+  ended = λ f. cc;
+  steady = λ sure all _. r.steady (so.sure sure) (subst (λ shelf. IsThere shelf name) (sym so.shelf) (there_at old.files.place.files (files_of order) (length inputs) kind name e all)) refl;
+}
+stops order old now files inputs text rest k input kind name stop.NoMemory ways so e r is few = record {
+  read = so.read;
+  accepted = refl;
+  least = omega arith;
+  can = refl;
+  begins = λ f. absurd (f refl);
+  break = λ f. cc;
+  fault = λ f. cc;
+  calm = λ _ f. absurd (f refl);
+  shelf = r.shelf ∙ so.shelf;
+  later = omega (arith, r.later, so.calm);
+  written = (text, rest, is, so.written);
+  readings = omega (arith, so.read_rows, few);
+  handled = λ f. cc;
+  ended = λ f. cc;
+  steady = λ _ _ f. cc;
+}
+
+-- a front of what is left was left before
+leaves_front : (old now new : Seen) (text more whole : List ℕ) → whole ≡ text ++ more → Wrote {T = ⊤} {E = ⊤} old now (Ok tt) text
+    → ((front : List ℕ) × (rest : List ℕ) × (more ≡ front ++ rest) × Wrote {T = ⊤} {E = ⊤} now new (Ok tt) front)
+    → ((front : List ℕ) × (rest : List ℕ) × (whole ≡ front ++ rest) × Wrote {T = ⊤} {E = ⊤} old new (Ok tt) front)
+leaves_front old now new text more whole is so (front, rest, split, w) =
+    (text ++ front, rest, is ∙ ap (λ l. text ++ l) split ∙ sym (append_assoc text front rest), writes_then so w)
+
+leaves_on : (old now new : Seen) (end : Status) (text more whole : List ℕ) → whole ≡ text ++ more → Wrote {T = ⊤} {E = ⊤} old now (Ok tt) text → Leaves now new end more → Leaves old new end whole
+leaves_on old now new status.Done text more whole is so left = subst (λ l. Wrote {T = ⊤} {E = ⊤} old new (Ok tt) l) (sym is) (writes_then so left)
+leaves_on old now new status.OutFault text more whole is so left = subst (λ l. Wrote {T = ⊤} {E = ⊤} old new (Err tt) l) (sym is) (writes_then so left)
+leaves_on old now new status.Broken text more whole is so left = leaves_front old now new text more whole is so left
+leaves_on old now new status.Usage text more whole is so left = leaves_front old now new text more whole is so left
+leaves_on old now new status.FileFault text more whole is so left = leaves_front old now new text more whole is so left
+leaves_on old now new status.HallFault text more whole is so left = leaves_front old now new text more whole is so left
+leaves_on old now new status.NoMemory text more whole is so left = leaves_front old now new text more whole is so left
+leaves_on old now new status.KeeperFault text more whole is so left = leaves_front old now new text more whole is so left
+
+-- no more files were begun than were accepted, where the end isn't a file's
+begun_same : (end : Status) (accepted : ℕ) → end ≢ status.Broken → end ≢ status.FileFault → begun_by end accepted ≡ accepted
+begun_same status.Broken accepted no_break no_fault = absurd (no_break refl)
+begun_same status.FileFault accepted no_break no_fault = absurd (no_fault refl)
+begun_same end accepted no_break no_fault = refl
+
+-- the last step of an order, which isn't a file's
+pub ends : (order : Order) (old now : Outside) (out : Seen) (inputs : List Input) (text more : List ℕ) (k j rows : ℕ) (ways : Ways) (end : Status)
+    → SoFar order old now inputs text k → output_of order inputs ways ≡ text ++ more → Leaves now.out out end more
+    → rows ≤ now.reads + j → k + j ≤ readings_of order inputs ways
+    → least_of order end ≤ length inputs → can_end order end ≡ true → end ≢ status.Broken → end ≢ status.FileFault → (end ≡ status.Done → AreHandled order inputs ways)
+    → Did order inputs ways old (record { files = now.files; out = out; reads = rows }) (ended_by (length inputs) end)
+ends order old now out inputs text more k j rows ways end so is left few within least can no_break no_fault handled = record {
+  read = so.read;
+  accepted = refl;
+  least = least;
+  can = can;
+  begins = λ _. rw (begun_same end (length inputs) no_break no_fault) so.begins;
+  break = λ f. absurd (no_break f);
+  fault = λ f. absurd (no_fault f);
+  calm = λ _ _. so.calm;
+  shelf = so.shelf;
+  later = omega (arith, so.calm);
+  written = leaves_on old.out now.out out end text more (output_of order inputs ways) is so.written left;
+  readings = omega (arith, so.read_rows, few, within);
+  handled = handled;
+  ended = λ f some. so.ended (at_least f some);
+  steady = λ _ _ f. no_fault f;
+}
+  where
+    at_least : end ≡ status.Done → 0 < length (files_of order) → 0 < length inputs
+    at_least f some =
+        let l : length (files_of order) ≤ length inputs = subst (λ e. least_of order e ≤ length inputs) f least in
+        omega (arith, l, some)
+
+-- memory ran out before anything was done
+pub gives_up : (order : Order) (old : Outside) → Did order [] no_ways old old (ended_by 0 status.NoMemory)
+gives_up order old = ends order old old old.out [] [] (output_of order [] no_ways) 0 0 old.reads no_ways status.NoMemory (starts order old) refl
+    ([], output_of order [] no_ways, refl, writes_none old.out) (omega arith) (omega arith) (omega arith) refl (λ f. cc) (λ f. cc) (λ f. cc)
+
+-- a keeper that wasn't begun
+pub keeps_nothing : (order : Order) (k : Kept) (at : ℕ) → Keeps order [] no_ways k k (ended_by at status.NoMemory)
+keeps_nothing order k at = record {
+  fault = λ f. cc;
+  later = omega arith;
+  began = false;
+  all = λ f. cc;
+  failed = λ f. cc;
+  kept = λ f. cc;
+  left = λ _. refl;
+  steady = λ _. ((λ f. cc), refl);
+}
+
+-- the connections before stay where none is served
+served_none : (coming : Option (List (List ℕ))) (before : Option (List Served)) (responses : List (List ℕ)) → responses ≡ []
+    → IfSome coming (λ come. IfSome before (λ old. IfSome before (λ new. ServesAll responses come old new coming)))
+served_none None before responses e = tt
+served_none (Some come) None responses e = tt
+served_none (Some come) (Some old) responses e = record {
+  before = old;
+  added = [];
+  rest = come;
+  whole = sym (append-nil old);
+  same = refl;
+  came = refl;
+  left_is = refl;
+  answered = subst (AreAnswered []) (sym e) tt;
+}
+
+no_responses : (order : Order) → responses_of order [] no_ways ≡ []
+no_responses (Tree name) = refl
+
+-- a hall that wasn't opened
+pub serves_nothing : (order : Order) (h : Seen) (at : ℕ) → Serves order [] no_ways h h (ended_by at status.NoMemory)
+serves_nothing order h at = record {
+  fault = λ f. cc;
+  later = omega arith;
+  served = served_none h.place.coming (served_by h) (responses_of order [] no_ways) (no_responses order);
+  number = λ f. cc;
+  steady = λ _ f. cc;
+}
+
+-- a run in which memory ran out before anything was done
+pub ran_out : (order : Order) (old : Outside) (k : Kept) (h e f : Seen) (result : Status) (telling : Result ⊤ OutFault) → result ≡ status.NoMemory
+    → Wrote e f telling (told result [] []) → Ran order old old k k h h e f result
+ran_out order old k h e f result telling is w = record {
+  end = ended_by 0 status.NoMemory;
+  is = sym is;
+  carried = record {
+    inputs = [];
+    ways = no_ways;
+    did = gives_up order old;
+    kept = λ _. keeps_nothing order k 0;
+    served = λ _. serves_nothing order h 0;
+  };
+  telling = telling;
+  tells = subst (λ s. Wrote e f telling (told s (name_at (files_of order) 0) [])) (sym is) (subst (λ s. Wrote e f telling (told s [] [])) is w);
+}
+
+-- what holds of the order that the words ask for
+pub of_order : (o : Option Order) (order : Order) (P : Order → Type 0) → o ≡ Some order → P order → IfSome o P
+of_order o order P e h = subst (λ x. IfSome x P) (sym e) h
+
+-- what holds of each order where memory ran out holds of that, where the words were refused
+pub of_refused : (o : Option Order) (r : WordRefusal) (result : Status) (P : Order → Type 0) → (r ≡ refusal.Usage → o ≡ None) → result ≡ refusal_status r
+    → (result ≡ status.NoMemory → (order : Order) → P order) → IfSome o P
+of_refused None r result P none is out = tt
+of_refused (Some order) refusal.Usage result P none is out = absurd (no (none refl))
+  where
+    no : Some order ≡ None → ⊥
+    no h = cc
+of_refused (Some order) refusal.NoMemory result P none is out = out is order
+
+-- an order that reads one file, and writes one text once it is accepted
+pub one_text : {T : Type 0} (order : Order) (old : Outside) (files out : Seen) (rows j : ℕ) (input : T → Input) (kind : Kind) (name : List ℕ) (x : T) (end : Status)
+    → file_behind (files_of order) 0 ≡ Some (kind, name) → Reads input kind name old.files files (Ok x)
+    → Leaves old.out out end (output_of order (input x ∷ []) no_ways) → rows ≤ old.reads + j → j ≤ readings_of order (input x ∷ []) no_ways
+    → least_of order end ≤ 1 → can_end order end ≡ true → end ≢ status.Broken → end ≢ status.FileFault → (end ≡ status.Done → AreHandled order (input x ∷ []) no_ways)
+    → Does order old (record { files = files; out = out; reads = rows }) (ended_by 1 end)
+one_text order old files out rows j input kind name x end e r left few within least can no_break no_fault handled = (
+  input x ∷ [],
+  no_ways,
+  ends order old (record { files = files; out = old.out; reads = old.reads }) out (input x ∷ []) [] (output_of order (input x ∷ []) no_ways) 0 j rows no_ways end
+      (reads order old old files [] [] 0 input kind name x (starts order old) e r) refl left few (omega (arith, within)) least can no_break no_fault handled,
+)
+
+-- and where that isn't accepted
+pub first_stops : {T : Type 0} (order : Order) (old : Outside) (files : Seen) (input : T → Input) (kind : Kind) (name : List ℕ) (s : Stop)
+    → file_behind (files_of order) 0 ≡ Some (kind, name) → Reads input kind name old.files files (Err s)
+    → Does order old (record { files = files; out = old.out; reads = old.reads }) (stopped_by 0 s)
+first_stops order old files input kind name s e r = (
+  [],
+  no_ways,
+  stops order old old files [] [] (output_of order [] no_ways) 0 input kind name s no_ways (starts order old) e r refl (omega arith),
+)

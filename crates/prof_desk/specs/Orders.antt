@@ -1,0 +1,47 @@
+-- What an order asks of the outside. Each of these has one equation for each order.
+use Rattle.std.specs.Prelude.{ℕ, List, [], ◌∷◌, length, Bool, true, false}
+use Rattle.prof_desk.specs.declared.status.Status.{Status}
+use Rattle.prof_desk.specs.declared.status.Status.TheVariants.{Done, Usage, OutFault, HallFault, KeeperFault}
+use Rattle.prof_desk.specs.declared.words.Order.{Order}
+use Rattle.prof_desk.specs.declared.words.Order.TheVariants.{Tree}
+
+-- what a file is to be
+pub data Kind : Type 0 where
+  a_profile : Kind
+
+-- the files that it reads, in the order in which it begins them
+abbrev pub files_of : Order → List (Kind × List ℕ)
+files_of (Tree name) = (a_profile, name) ∷ []
+
+-- how many of them it reads before it writes
+abbrev pub needed_of : Order → ℕ
+needed_of (Tree name) = 1
+
+-- whether it asks the keeper, and under which name
+abbrev pub asks_keeper : Order → Bool
+asks_keeper (Tree name) = false
+
+abbrev pub keeper_name : Order → List ℕ
+keeper_name (Tree name) = []
+
+-- whether it opens the hall, and for how many connections
+abbrev pub asks_hall : Order → Bool
+asks_hall (Tree name) = false
+
+abbrev pub connections_of : Order → ℕ
+connections_of (Tree name) = 0
+
+-- the statuses by which it can end
+abbrev pub can_end : Order → Status → Bool
+can_end order Usage = false
+can_end order HallFault = asks_hall order
+can_end order KeeperFault = asks_keeper order
+can_end order status = true
+
+-- so many of its files at least are accepted where it ends so
+abbrev pub least_of : Order → Status → ℕ
+least_of order Done = length (files_of order)
+least_of order OutFault = needed_of order
+least_of order HallFault = length (files_of order)
+least_of order KeeperFault = length (files_of order)
+least_of order status = 0

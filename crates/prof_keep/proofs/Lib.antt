@@ -1,0 +1,4 @@
+pub mod DigestLemmas
+pub mod LineLemmas
+pub mod SavedLemmas
+pub mod WritingLemmas

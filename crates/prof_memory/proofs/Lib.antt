@@ -1,0 +1,4 @@
+pub mod LeftBytes
+pub mod Shelves
+pub mod KeptTexts
+pub mod Answered

@@ -1,0 +1,4 @@
+pub mod Memory
+pub mod Plans
+pub mod Halls
+pub mod Keeping

@@ -1,0 +1,15 @@
+pub mod Lists
+pub mod Bytes
+pub mod Numbers
+pub mod Words
+pub mod Parts
+pub mod Closing
+pub mod Chained
+pub mod Utf8Lemmas
+pub mod EscapeLemmas
+pub mod SearchLemmas
+pub mod SignedLemmas
+pub mod Readings
+pub mod SearchReadings
+pub mod WritingLemmas
+pub mod SequenceLemmas

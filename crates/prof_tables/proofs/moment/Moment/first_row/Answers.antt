@@ -1,6 +1,0 @@
-use Rattle.std.proofs.Common.{sym}
-use Rattle.prof_tables.proofs.FirstRow.{first_row-found}
-use Rattle.prof_tables.proofs.moment.Moment.first_row.Goals as goal
-
-pub returns-in-Some : goal.returns-in-Some
-returns-in-Some c = sym (first_row-found _ c.loop-row.row _ c.in-Some.rule c.loop-row.invariant (sym c.in-Some.ensures) c.loop-row-test.true)

@@ -1,0 +1,10 @@
+pub mod Waiting
+pub mod Heads
+pub mod Messages
+pub mod Reading
+pub mod Taking
+pub mod Sound
+pub mod Responses
+pub mod Lent
+pub mod OnlyRoute
+pub mod Routing
