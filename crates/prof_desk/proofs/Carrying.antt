@@ -1,5 +1,5 @@
 -- Orders that are carried out step by step.
-use Rattle.std.proofs.Common.{◌≡◌, ◌≢◌, ◌<◌, ℕ, zero, suc, ◌+◌, ◌-◌, ◌≤◌, ◌^◌, min, List, [], ◌∷◌, ◌++◌, length, arith, Ok, Err, None, Some, Result, Option, IfSome, refl, length-append, ap, sym, ◌∙◌, subst, true, false, append_assoc, append-nil}
+use Rattle.std.proofs.Common.{◌≡◌, ◌≢◌, ◌<◌, ℕ, zero, suc, ◌+◌, ◌-◌, ◌≤◌, ◌^◌, min, List, [], ◌∷◌, ◌++◌, length, arith, Ok, Err, None, Some, Result, Option, IfSome, refl, length-append, ap, sym, ◌∙◌, subst, true, false, append_assoc, append-nil, inl, inr, ◌⊎◌}
 use Rattle.std.specs.Prelude.{⊤}
 use Rattle.std.specs.Io.KnownBytes.{IsAtEnd}
 use Rattle.prof_io.specs.Causes.{Rose}
@@ -11,18 +11,20 @@ use Rattle.prof_desk.specs.declared.outcome.Stop.TheVariants as stop
 use Rattle.prof_desk.specs.declared.status.Status.{Status}
 use Rattle.prof_desk.specs.declared.status.Status.TheVariants as status
 use Rattle.prof_desk.specs.declared.words.Order.{Order}
-use Rattle.prof_desk.specs.declared.words.WordRefusal.{WordRefusal}
-use Rattle.prof_desk.specs.declared.words.WordRefusal.TheVariants as refusal
-use Rattle.prof_desk.specs.declared.words.Order.TheVariants.{Tree}
+use Rattle.prof_words.specs.declared.order.WordRefusal.{WordRefusal}
+use Rattle.prof_words.specs.declared.order.WordRefusal.TheVariants as refusal
+use Rattle.prof_desk.specs.declared.playing.PlayEnd.{PlayEnd}
+use Rattle.prof_desk.specs.declared.playing.PlayEnd.TheVariants as play_end
 use Rattle.prof_desk.specs.Inputs.{Input, IsInput, IsBreak, IsBreakAt, IsThere, AreInputs, AreThere, name_at, text_in}
-use Rattle.prof_desk.specs.Orders.{Kind, can_end, files_of, least_of}
+use Rattle.prof_desk.specs.Orders.{Kind, can_end, files_of, least_of, needed_of}
 use Rattle.prof_desk.specs.Outcomes.{Reads, begun_by, ended_by, stopped_by}
 use Rattle.prof_desk.specs.Output.{AreHandled, output_of, readings_of, responses_of}
 use Rattle.prof_io.specs.Outside.{Kept, Seen}
-use Rattle.prof_desk.specs.Playing.{Leaves}
+use Rattle.prof_desk.specs.Playing.{Leaves, status_of}
 use Rattle.prof_desk.specs.Ran.{AreAnswered, Did, Does, Keeps, Outside, Ran, Serves, ServesAll, served_by}
 use Rattle.prof_io.specs.Sinks.{Wrote}
 use Rattle.prof_desk.specs.Telling.{refusal_status, told}
+use Rattle.prof_words.specs.Reading.{Reads as ReadsWords}
 use Rattle.prof_desk.specs.Ways.{Ways, no_ways}
 use Rattle.prof_writer.proofs.Outputs.{writes_none, writes_then, writes_ok}
 
@@ -260,7 +262,7 @@ served_none (Some come) (Some old) responses e = record {
 }
 
 no_responses : (order : Order) → responses_of order [] no_ways ≡ []
-no_responses (Tree name) = refl
+no_responses order = refl
 
 -- a hall that wasn't opened
 pub serves_nothing : (order : Order) (h : Seen) (at : ℕ) → Serves order [] no_ways h h (ended_by at status.NoMemory)
@@ -293,6 +295,16 @@ ran_out order old k h e f result telling is w = record {
 pub of_order : (o : Option Order) (order : Order) (P : Order → Type 0) → o ≡ Some order → P order → IfSome o P
 of_order o order P e h = subst (λ x. IfSome x P) (sym e) h
 
+-- words that are refused for themselves ask for nothing
+pub refused_none : (o : Option Order) (r : WordRefusal) → ReadsWords o (Err r) → r ≡ refusal.Usage → o ≡ None
+refused_none o refusal.Usage h e = h
+refused_none o refusal.NoMemory h e = cc
+
+-- and the status for a refusal is one of two
+pub refused_by : (r : WordRefusal) (result : Status) → result ≡ refusal_status r → (result ≡ status.Usage) ⊎ (result ≡ status.NoMemory)
+refused_by refusal.Usage result e = inl e
+refused_by refusal.NoMemory result e = inr e
+
 -- what holds of each order where memory ran out holds of that, where the words were refused
 pub of_refused : (o : Option Order) (r : WordRefusal) (result : Status) (P : Order → Type 0) → (r ≡ refusal.Usage → o ≡ None) → result ≡ refusal_status r
     → (result ≡ status.NoMemory → (order : Order) → P order) → IfSome o P
@@ -315,6 +327,34 @@ one_text order old files out rows j input kind name x end e r left few within le
   ends order old (record { files = files; out = old.out; reads = old.reads }) out (input x ∷ []) [] (output_of order (input x ∷ []) no_ways) 0 j rows no_ways end
       (reads order old old files [] [] 0 input kind name x (starts order old) e r) refl left few (omega (arith, within)) least can no_break no_fault handled,
 )
+
+-- the same, by how its answers ended
+pub answers_one : {T : Type 0} (order : Order) (old : Outside) (files out : Seen) (rows j : ℕ) (input : T → Input) (kind : Kind) (name : List ℕ) (x : T) (r : Result ⊤ PlayEnd)
+    → file_behind (files_of order) 0 ≡ Some (kind, name) → length (files_of order) ≡ 1 → needed_of order ≡ 1 → Reads input kind name old.files files (Ok x)
+    → Leaves old.out out (status_of r) (output_of order (input x ∷ []) no_ways) → rows ≤ old.reads + j → j ≤ readings_of order (input x ∷ []) no_ways
+    → Does order old (record { files = files; out = out; reads = rows }) (ended_by 1 (status_of r))
+answers_one order old files out rows j input kind name x (Ok y) e one need r left few within =
+    one_text order old files out rows j input kind name x status.Done e r left few within (omega (arith, one)) refl (λ f. cc) (λ f. cc) (λ _. tt)
+answers_one order old files out rows j input kind name x (Err play_end.OutFault) e one need r left few within =
+    one_text order old files out rows j input kind name x status.OutFault e r left few within (omega (arith, need)) refl (λ f. cc) (λ f. cc) (λ _. tt)
+answers_one order old files out rows j input kind name x (Err play_end.NoMemory) e one need r left few within =
+    one_text order old files out rows j input kind name x status.NoMemory e r left few within (omega arith) refl (λ f. cc) (λ f. cc) (λ _. tt)
+
+-- an order that reads no file, and writes one text
+text_alone : (order : Order) (old : Outside) (out : Seen) (end : Status)
+    → Leaves old.out out end (output_of order [] no_ways) → least_of order end ≤ 0 → can_end order end ≡ true → end ≢ status.Broken → end ≢ status.FileFault
+    → Does order old (record { files = old.files; out = out; reads = old.reads }) (ended_by 0 end)
+text_alone order old out end left least can no_break no_fault = (
+  [],
+  no_ways,
+  ends order old old out [] [] (output_of order [] no_ways) 0 0 old.reads no_ways end (starts order old) refl left (omega arith) (omega arith) least can no_break no_fault (λ _. tt),
+)
+
+pub answers_alone : (order : Order) (old : Outside) (out : Seen) (r : Result ⊤ PlayEnd) → length (files_of order) ≡ 0 → needed_of order ≡ 0
+    → Leaves old.out out (status_of r) (output_of order [] no_ways) → Does order old (record { files = old.files; out = out; reads = old.reads }) (ended_by 0 (status_of r))
+answers_alone order old out (Ok x) none need left = text_alone order old out status.Done left (omega (arith, none)) refl (λ f. cc) (λ f. cc)
+answers_alone order old out (Err play_end.OutFault) none need left = text_alone order old out status.OutFault left (omega (arith, need)) refl (λ f. cc) (λ f. cc)
+answers_alone order old out (Err play_end.NoMemory) none need left = text_alone order old out status.NoMemory left (omega arith) refl (λ f. cc) (λ f. cc)
 
 -- and where that isn't accepted
 pub first_stops : {T : Type 0} (order : Order) (old : Outside) (files : Seen) (input : T → Input) (kind : Kind) (name : List ℕ) (s : Stop)

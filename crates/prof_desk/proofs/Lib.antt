@@ -1,6 +1,7 @@
 pub mod Pieces
-pub mod Pages
+pub mod Found
 pub mod Fresh
+pub mod Held
 pub mod Rows
 pub mod OwnTree
 pub mod Carrying

@@ -7,7 +7,7 @@ pub mod Outcomes
 pub mod Playing
 pub mod Ran
 pub mod Replies
+pub mod Summary
 pub mod Telling
 pub mod Ways
 pub mod Words
-pub mod Writing

@@ -3,7 +3,7 @@ use Rattle.std.specs.Prelude.{ℕ, List, [], ◌∷◌, length, Bool, true, fals
 use Rattle.prof_desk.specs.declared.status.Status.{Status}
 use Rattle.prof_desk.specs.declared.status.Status.TheVariants.{Done, Usage, OutFault, HallFault, KeeperFault}
 use Rattle.prof_desk.specs.declared.words.Order.{Order}
-use Rattle.prof_desk.specs.declared.words.Order.TheVariants.{Tree}
+use Rattle.prof_desk.specs.declared.words.Order.TheVariants.{Tree, Markers, Check, Gen}
 
 -- what a file is to be
 pub data Kind : Type 0 where
@@ -12,24 +12,30 @@ pub data Kind : Type 0 where
 -- the files that it reads, in the order in which it begins them
 abbrev pub files_of : Order → List (Kind × List ℕ)
 files_of (Tree name) = (a_profile, name) ∷ []
+files_of (Markers name thread search) = (a_profile, name) ∷ []
+files_of (Check name) = (a_profile, name) ∷ []
+files_of (Gen number) = []
 
 -- how many of them it reads before it writes
 abbrev pub needed_of : Order → ℕ
 needed_of (Tree name) = 1
+needed_of (Markers name thread search) = 1
+needed_of (Check name) = 1
+needed_of (Gen number) = 0
 
 -- whether it asks the keeper, and under which name
 abbrev pub asks_keeper : Order → Bool
-asks_keeper (Tree name) = false
+asks_keeper order = false
 
 abbrev pub keeper_name : Order → List ℕ
-keeper_name (Tree name) = []
+keeper_name order = []
 
 -- whether it opens the hall, and for how many connections
 abbrev pub asks_hall : Order → Bool
-asks_hall (Tree name) = false
+asks_hall order = false
 
 abbrev pub connections_of : Order → ℕ
-connections_of (Tree name) = 0
+connections_of order = 0
 
 -- the statuses by which it can end
 abbrev pub can_end : Order → Status → Bool

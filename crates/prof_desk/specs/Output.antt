@@ -1,16 +1,24 @@
 -- What an order writes. Each of the functions over orders has one equation for each order.
-use Rattle.std.specs.Prelude.{ℕ, List, [], ◌∷◌, ◌++◌, codes, length, ⊤}
+use Rattle.std.specs.Prelude.{ℕ, List, [], ◌∷◌, ◌++◌, codes, length, slice_get, ⊤, if◌then◌else◌}
+use Rattle.std.specs.List.{filter}
+use Rattle.std.specs.Option.{option_map_or}
 use Rattle.std.specs.Fmt.{decimal}
 use Rattle.prof_io.specs.Shelf.{Shelf}
+use Rattle.prof_demo.specs.Generated.{generated}
+use Rattle.prof_marker.specs.declared.list.Marker.{Marker}
+use Rattle.prof_marker.specs.Found.{is_found}
+use Rattle.prof_marker.specs.Markers.{pair}
 use Rattle.prof_tables.specs.Threads.{ThreadTables}
 use Rattle.prof_path.specs.declared.transform.Implementation.TheVariants.{Combined}
+use Rattle.prof_path.specs.Terms.{is_long_search, terms_of}
 use Rattle.prof_path.specs.Views.{ViewLists}
 use Rattle.prof_tree.specs.Views.{plain_tree, selected_weight, dropped_weight}
-use Rattle.prof_desk.specs.declared.reply.Refusal.TheVariants.{NoSession, NoThread}
+use Rattle.prof_desk.specs.declared.reply.Refusal.TheVariants.{NoSession, NoThread, LongSearch}
 use Rattle.prof_desk.specs.declared.words.Order.{Order}
-use Rattle.prof_desk.specs.declared.words.Order.TheVariants.{Tree}
+use Rattle.prof_desk.specs.declared.words.Order.TheVariants.{Tree, Markers, Check, Gen}
 use Rattle.prof_desk.specs.Inputs.{Input, of_profile}
-use Rattle.prof_desk.specs.Replies.{refusal_text, tree_text}
+use Rattle.prof_desk.specs.Replies.{markers_text, refusal_text, tree_text}
+use Rattle.prof_desk.specs.Summary.{summary_text}
 use Rattle.prof_desk.specs.Telling.{line}
 use Rattle.prof_desk.specs.Ways.{Ways}
 
@@ -18,15 +26,34 @@ use Rattle.prof_desk.specs.Ways.{Ways}
 abbrev pub fresh : ViewLists
 fresh = record { thread = 0; ranges = []; transforms = []; implementation = Combined; search = [] }
 
--- The replies to the opening of a session on the first thread, and to the request of its tree. Without that thread
--- there is no session.
+-- The replies to the opening of a session on a thread that isn't there, where there are so many, and to a request of it.
+abbrev pub unopened : ℕ → List ℕ
+unopened threads = line (refusal_text (NoThread threads)) ++ line (refusal_text NoSession)
+
+-- The replies to the opening of a session on the first thread, and to the request of its tree.
 abbrev pub tree_replies : List ThreadTables → List ℕ
-tree_replies [] = line (refusal_text (NoThread 0)) ++ line (refusal_text NoSession)
+tree_replies [] = unopened 0
 tree_replies (t ∷ threads) = line (codes "ok " ++ decimal 0) ++ tree_text t (plain_tree t fresh []) (selected_weight t fresh []) (dropped_weight t fresh [])
+
+-- the markers of a thread that a search finds
+abbrev pub found_markers : ThreadTables → List ℕ → List Marker
+found_markers t search = filter (is_found t.shared.strings t.markers.texts (terms_of search) []) (pair t)
+
+-- the reply to the request of a thread's markers, where a long search is refused
+abbrev pub markers_reply : ThreadTables → List ℕ → List ℕ
+markers_reply t search = if is_long_search search then line (refusal_text LongSearch) else markers_text t.shared (found_markers t search)
+
+-- the replies to the opening of a session on a thread, and to the request of its markers
+abbrev pub markers_replies : List ThreadTables → ℕ → List ℕ → List ℕ
+markers_replies threads thread search =
+    option_map_or (λ t. line (codes "ok " ++ decimal 0) ++ markers_reply t search) (slice_get threads thread) (unopened (length threads))
 
 -- what may be written once these files were accepted: with all of them it is the output
 abbrev pub output_of : Order → List Input → Ways → List ℕ
 output_of (Tree name) (of_profile p digest form ∷ []) ways = tree_replies p.threads
+output_of (Markers name thread search) (of_profile p digest form ∷ []) ways = markers_replies p.threads thread search
+output_of (Check name) (of_profile p digest form ∷ []) ways = summary_text p digest form
+output_of (Gen number) [] ways = generated number
 output_of order inputs ways = []
 
 -- the stack rows of the first thread
@@ -41,12 +68,12 @@ readings_of order inputs ways = 0
 
 -- each request has its fate
 abbrev pub AreHandled : Order → List Input → Ways → Type 0
-AreHandled (Tree name) inputs ways = ⊤
+AreHandled order inputs ways = ⊤
 
 -- the texts that the keeper has in the end, of those that it began with
 abbrev pub kept_of : Order → List Input → Ways → Shelf → Shelf
-kept_of (Tree name) inputs ways texts = texts
+kept_of order inputs ways texts = texts
 
 -- the responses of each served connection
 abbrev pub responses_of : Order → List Input → Ways → List (List ℕ)
-responses_of (Tree name) inputs ways = []
+responses_of order inputs ways = []

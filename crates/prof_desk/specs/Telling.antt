@@ -2,8 +2,8 @@
 use Rattle.std.specs.Prelude.{ℕ, List, [], ◌∷◌, ◌++◌, codes}
 use Rattle.prof_desk.specs.declared.status.Status.{Status}
 use Rattle.prof_desk.specs.declared.status.Status.TheVariants.{Done, Broken, Usage, FileFault, OutFault, HallFault, NoMemory, KeeperFault}
-use Rattle.prof_desk.specs.declared.words.WordRefusal.{WordRefusal}
-use Rattle.prof_desk.specs.declared.words.WordRefusal.TheVariants as refusal
+use Rattle.prof_words.specs.declared.order.WordRefusal.{WordRefusal}
+use Rattle.prof_words.specs.declared.order.WordRefusal.TheVariants as refusal
 
 -- a line
 abbrev pub line : List ℕ → List ℕ

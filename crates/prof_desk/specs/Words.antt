@@ -1,23 +1,19 @@
--- What the words of the command line ask for.
-use Rattle.std.specs.Prelude.{ℕ, List, [], ◌∷◌, Bool, false, not, ◌&&◌, ◌==◌, if◌then◌else◌, map, Some, None, string_bytes, String, codes}
-use Rattle.std.specs.Str.{bytes_eq}
-use Rattle.std.specs.declared.option.Option.{Option}
-use Rattle.std.specs.declared.alloc.Global.{Global}
+-- What the words of the command line ask for, of what there is.
+use Rattle.std.specs.Prelude.{ℕ, List, Option, Some, None, option_and_then}
 use Rattle.prof_desk.specs.declared.words.Order.{Order}
-use Rattle.prof_desk.specs.declared.words.Order.TheVariants.{Tree}
+use Rattle.prof_desk.specs.declared.words.Order.TheVariants.{Tree, Markers, Check, Gen}
+use Rattle.prof_words.specs.Words as words
+use Rattle.prof_words.specs.declared.order.Order.{Order as Asked}
+use Rattle.prof_words.specs.declared.order.Order.TheVariants as asked
 
--- a file's name: neither empty nor with a dash in front
-abbrev pub is_name : List ℕ → Bool
-is_name [] = false
-is_name (c ∷ rest) = not (c == 45)
+-- the order, where it is carried out
+abbrev pub carried_out : Asked → Option Order
+carried_out (asked.Tree profile) = Some (Tree profile)
+carried_out (asked.Markers profile thread search) = Some (Markers profile thread search)
+carried_out (asked.Check profile) = Some (Check profile)
+carried_out (asked.Gen number) = Some (Gen number)
+carried_out order = None
 
 -- what the words ask for, if there is such a thing
 abbrev pub order_of : List (List ℕ) → Option Order
-order_of [] = None
-order_of (command ∷ []) = None
-order_of (command ∷ name ∷ []) = if bytes_eq command (codes "tree") && is_name name then Some (Tree name) else None
-order_of (command ∷ name ∷ word ∷ words) = None
-
--- the words as texts
-abbrev pub texts_of : List (String Global) → List (List ℕ)
-texts_of words = map string_bytes words
+order_of texts = option_and_then carried_out (words.order_of texts)

@@ -3,9 +3,9 @@ ghost use Rattle.std.specs.Prelude.{◌≡◌, ◌≤◌, ◌+◌, ◌++◌, len
 ghost use Rattle.arrayvec.specs.ArrayString.{array_string_len};
 ghost use Rattle.prof_desk.specs.Breaks.{break_text, broken_text, column_text, fault_text, rule_text, table_text, thread_text, row_text};
 
-use crate::lines::{Line, push_number};
 use arrayvec::ArrayString;
 use prof_json::JsonFault;
+use prof_page::{Line, push_number};
 use prof_tables::{Broken, Column, Rule, Table};
 
 /// Why a text isn't accepted.

@@ -1,25 +1,39 @@
 // The top call.
-ghost use Rattle.std.specs.Prelude.{◌≡◌, ◌↔◌, None, IfSome, false, [], Result, ⊤};
+ghost use Rattle.std.specs.Prelude.{◌≡◌, ◌∷◌, ◌⊎◌, None, IfSome, false, [], Result, ⊤};
 ghost use Rattle.prof_io.specs.declared.copying.OutFault.{OutFault};
 ghost use Rattle.prof_desk.specs.Breaks.{break_text};
 ghost use Rattle.prof_desk.specs.Inputs.{name_at};
-ghost use Rattle.prof_desk.specs.Orders.{asks_hall, asks_keeper, files_of};
+ghost use Rattle.prof_desk.specs.Orders.{a_profile, asks_hall, asks_keeper, files_of};
 ghost use Rattle.prof_io.specs.Outside.{kept, seen};
+ghost use Rattle.prof_desk.specs.Playing.{status_of};
 ghost use Rattle.prof_desk.specs.Ran.{Carried, Does, Ran, outside};
 ghost use Rattle.prof_io.specs.Sinks.{Wrote};
 ghost use Rattle.prof_desk.specs.Telling.{refusal_status, told};
-ghost use Rattle.prof_desk.specs.Words.{order_of, texts_of};
+ghost use Rattle.prof_desk.specs.Words.{order_of};
+ghost use Rattle.prof_words.specs.Reading.{texts_of};
 
 use crate::Status;
 use crate::breaks::break_text;
 use crate::outcome::Outcome;
-use crate::playing::{PlayEnd, write_tree};
+use crate::playing::{PlayEnd, write_check, write_generated, write_markers, write_tree};
 use crate::reading::read_named;
 use crate::telling::tell;
-use crate::words::{Order, WordRefusal, read_words};
-use prof_io::{Files, Hall, Keeper, OutFault, Sink, Steps};
+use crate::words::{Order, read_words};
+use prof_io::{Files, Hall, Keeper, OutFault, Sink, Steps, Text};
+use prof_words::WordRefusal;
 use std::alloc::Global;
 use std::sync::ledger::Ledger;
+
+/// The status by which answers end.
+fn status_of(played: Result<(), PlayEnd>) -> Status
+    ensures { result ≡ status_of played }
+{
+    match played {
+        Ok(()) => Status::Done,
+        Err(PlayEnd::OutFault) => Status::OutFault,
+        Err(PlayEnd::NoMemory) => Status::NoMemory,
+    }
+}
 
 /// Reads the profile of that name, and writes the tree of its first thread.
 fn tree_of<F: Files, S: Sink, L: Ledger>(
@@ -36,11 +50,62 @@ fn tree_of<F: Files, S: Sink, L: Ledger>(
         Ok((profile, _, _)) => profile,
         Err(stop) => return Outcome::stopped(0, stop),
     };
-    match write_tree(alloc, &profile, out, reads) {
-        Ok(()) => Outcome::ended(1, Status::Done),
-        Err(PlayEnd::OutFault) => Outcome::ended(1, Status::OutFault),
-        Err(PlayEnd::NoMemory) => Outcome::ended(1, Status::NoMemory),
-    }
+    Outcome::ended(1, status_of(write_tree(alloc, &profile, out, reads)))
+}
+
+/// Reads the profile of that name, and writes the markers of a thread that a search finds.
+fn markers_of<F: Files, S: Sink, L: Ledger>(
+    alloc: Global,
+    name: &str,
+    thread: u32,
+    search: &str,
+    files: &mut F,
+    out: &mut S,
+    reads: &mut Steps<L>,
+) -> Outcome
+    ensures { Does (Order.Markers name.now thread search.now)
+        (outside F.Counted S.Counted files.old out.old reads.old)
+        (outside F.Counted S.Counted files.new out.new reads.new) result }
+{
+    let profile = match read_named(alloc, name, files) {
+        Ok((profile, _, _)) => profile,
+        Err(stop) => return Outcome::stopped(0, stop),
+    };
+    Outcome::ended(
+        1,
+        status_of(write_markers(alloc, &profile, thread, search, out)),
+    )
+}
+
+/// Reads the profile of that name, and writes its summary.
+fn check_of<F: Files, S: Sink, L: Ledger>(
+    alloc: Global,
+    name: &str,
+    files: &mut F,
+    out: &mut S,
+    reads: &mut Steps<L>,
+) -> Outcome
+    ensures { Does (Order.Check name.now) (outside F.Counted S.Counted files.old out.old reads.old)
+        (outside F.Counted S.Counted files.new out.new reads.new) result }
+{
+    let (profile, digest, form) = match read_named(alloc, name, files) {
+        Ok(read) => read,
+        Err(stop) => return Outcome::stopped(0, stop),
+    };
+    Outcome::ended(1, status_of(write_check(&profile, &digest, form, out)))
+}
+
+/// Writes the profile that the number makes.
+fn gen_of<F: Files, S: Sink, L: Ledger>(
+    number: u32,
+    files: &mut F,
+    out: &mut S,
+    reads: &mut Steps<L>,
+) -> Outcome
+    ensures { Does (Order.Gen number) (outside F.Counted S.Counted files.old out.old reads.old)
+        (outside F.Counted S.Counted files.new out.new reads.new) result }
+{
+    Outcome::ended(0, status_of(write_generated(number, out)))
 }
 
 /// Does what an order asks for.
@@ -62,7 +127,29 @@ fn carry_out<F: Files, H: Hall, K: Keeper, S: Sink, L: Ledger>(
 {
     match order {
         Order::Tree { profile } => tree_of(alloc, profile.as_str(), files, out, reads),
+        Order::Markers {
+            profile,
+            thread,
+            search,
+        } => markers_of(
+            alloc,
+            profile.as_str(),
+            *thread,
+            search.as_str(),
+            files,
+            out,
+            reads,
+        ),
+        Order::Check { profile } => check_of(alloc, profile.as_str(), files, out, reads),
+        Order::Gen { number } => gen_of(*number, files, out, reads),
     }
+}
+
+/// The one name, where no file is accepted yet.
+fn only(name: &Text, accepted: usize) -> &str
+    ensures { result.now ≡ name_at ((a_profile, name.now) ∷ []) accepted }
+{
+    if accepted == 0 { name.as_str() } else { "" }
 }
 
 /// The name of the file behind so many.
@@ -70,8 +157,10 @@ fn name_behind(order: &Order, accepted: usize) -> &str
     ensures { result.now ≡ name_at (files_of order.now) accepted }
 {
     match order {
-        Order::Tree { profile } if accepted == 0 => profile.as_str(),
-        Order::Tree { .. } => "",
+        Order::Tree { profile } => only(profile, accepted),
+        Order::Markers { profile, .. } => only(profile, accepted),
+        Order::Check { profile } => only(profile, accepted),
+        Order::Gen { .. } => "",
     }
 }
 
@@ -114,7 +203,7 @@ pub fn run<F: Files, H: Hall, K: Keeper, S: Sink, E: Sink, L: Ledger>(
     err: &mut E,
     reads: &mut Steps<L>,
 ) -> Status
-    ensures usage { (result ≡ Status.Usage) ↔ (order_of (texts_of words.now) ≡ None) }
+    ensures usage { result ≡ Status.Usage → order_of (texts_of words.now) ≡ None }
 
     // For an order: what it did to the outside, how it ended, and what was told.
     ensures ran { IfSome (order_of (texts_of words.now)) (λ order. Ran order
@@ -128,11 +217,13 @@ pub fn run<F: Files, H: Hall, K: Keeper, S: Sink, E: Sink, L: Ledger>(
     ensures keeper { IfSome (order_of (texts_of words.now)) (λ order.
         asks_keeper order ≡ false → keeper.new ≡ keeper.old) }
 
-    // Without one nothing is touched, and the usage is told.
+    // Without one nothing is touched, and the usage is told, or that memory ran out before that was known.
+    ensures refused { order_of (texts_of words.now) ≡ None
+        → (result ≡ Status.Usage) ⊎ (result ≡ Status.NoMemory) }
     ensures unasked { order_of (texts_of words.now) ≡ None → (files.new ≡ files.old) × (hall.new ≡ hall.old)
         × (keeper.new ≡ keeper.old) × (out.new ≡ out.old) × (reads.new ≡ reads.old) }
-    ensures usage_told { order_of (texts_of words.now) ≡ None → (telling : Result ⊤ OutFault)
-        × Wrote (seen E.Counted err.old) (seen E.Counted err.new) telling (told Status.Usage [] []) }
+    ensures told { order_of (texts_of words.now) ≡ None → (telling : Result ⊤ OutFault)
+        × Wrote (seen E.Counted err.old) (seen E.Counted err.new) telling (told result [] []) }
 {
     let order = match read_words(alloc, words) {
         Ok(order) => order,

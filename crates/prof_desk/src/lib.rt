@@ -4,17 +4,19 @@
 mod breaks;
 mod desk;
 mod lines;
+mod markers;
 mod outcome;
 mod own;
-mod page;
 mod playing;
 mod reading;
 mod reply;
 mod status;
+mod summary;
 mod telling;
 mod words;
 
 pub use desk::{refuse, run};
+pub use prof_words::WordRefusal;
 pub use reply::{Refusal, Reply, reply_text};
 pub use status::Status;
-pub use words::{Order, WordRefusal, read_words};
+pub use words::{Order, read_words};

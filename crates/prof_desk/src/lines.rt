@@ -1,27 +1,11 @@
 // The lines of a reply, put together before they are written.
 ghost use Rattle.std.specs.Prelude.{◌≡◌, ◌≤◌, ◌+◌, ◌++◌, length};
-ghost use Rattle.arrayvec.specs.ArrayString.{array_string_len};
-ghost use Rattle.prof_desk.specs.Lines.{node_head, tree_head};
+ghost use Rattle.prof_desk.specs.Lines.{marker_head, markers_head, node_head, thread_head, tree_head};
 
 use arrayvec::ArrayString;
-use itoa::{Buffer, Integer};
+use prof_marker::Marker;
+use prof_page::{Line, push_number};
 use prof_tree::Node;
-
-/// The longest line but for a name: five numbers of at most 40 digits, and the words between.
-const ROOM: usize = 256;
-
-pub type Line = ArrayString<ROOM>;
-
-/// Appends a number, and what stands behind it.
-pub(crate) fn push_number<I: Integer>(line: &mut Line, n: I, behind: &str)
-    requires { array_string_len line.old + 40 + length behind.now ≤ ROOM }
-    ensures text { line.new.bytes ≡ line.old.bytes ++ (I.text n ++ behind.now) }
-    ensures short { array_string_len line.new ≤ array_string_len line.old + 40 + length behind.now }
-{
-    let mut buffer = Buffer::new();
-    line.push_str(buffer.format(n));
-    line.push_str(behind);
-}
 
 #[tactic(auto, unfolding(crate::specs::Lines::node_head))]
 /// What stands before a node's name.
@@ -52,5 +36,42 @@ pub fn tree_head(kind: &str, unit: &str, nodes: usize, selected: i128, dropped: 
     push_number(&mut line, nodes, " selected ");
     push_number(&mut line, selected, " dropped ");
     push_number(&mut line, dropped, "\n");
+    line
+}
+
+#[tactic(auto, unfolding(crate::specs::Lines::markers_head))]
+/// The first line of a reply of markers.
+pub fn markers_head(markers: usize) -> Line
+    ensures { result.bytes ≡ markers_head markers }
+{
+    let mut line = ArrayString::new();
+    line.push_str("markers ");
+    push_number(&mut line, markers, "\n");
+    line
+}
+
+#[tactic(auto, unfolding(crate::specs::Lines::marker_head))]
+/// What stands before a marker's name.
+pub fn marker_head(marker: Marker) -> Line
+    ensures { result.bytes ≡ marker_head marker }
+{
+    let mut line = ArrayString::new();
+    push_number(&mut line, marker.start, " ");
+    push_number(&mut line, marker.end, " ");
+    line
+}
+
+#[tactic(auto, unfolding(crate::specs::Lines::thread_head))]
+/// What stands before a thread's name.
+pub fn thread_head(number: usize, funcs: u32, stacks: u32, samples: u32, markers: usize) -> Line
+    ensures { result.bytes ≡ thread_head number funcs stacks samples markers }
+{
+    let mut line = ArrayString::new();
+    line.push_str("thread ");
+    push_number(&mut line, number, " functions ");
+    push_number(&mut line, funcs, " stacks ");
+    push_number(&mut line, stacks, " samples ");
+    push_number(&mut line, samples, " markers ");
+    push_number(&mut line, markers, " ");
     line
 }

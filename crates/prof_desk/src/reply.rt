@@ -8,12 +8,14 @@ ghost use Rattle.prof_desk.specs.Telling.{line};
 ghost use Rattle.prof_writer.specs.Writing.{quoted};
 ghost use Rattle.prof_io.specs.Outside.{seen};
 ghost use Rattle.prof_io.specs.Sinks.{Wrote};
-ghost use Rattle.prof_desk.specs.Writing.{Gathers};
+ghost use Rattle.prof_page.specs.Gathering.{Gathers};
 
-use crate::lines::{Line, node_head, push_number, tree_head};
-use crate::page::{Page, add_line, write_page};
+use crate::lines::{node_head, tree_head};
+use crate::markers::write_markers;
 use arrayvec::ArrayString;
 use prof_io::{OutFault, Sink, copy_out};
+use prof_marker::MarkerList;
+use prof_page::{Line, Page, add_line, push_number, write_page};
 use prof_tables::{Thread, Unit};
 use prof_tree::{Node, Tree};
 use prof_writer::{push_unescaped, write_string};
@@ -25,6 +27,8 @@ pub enum Refusal {
     NoSession,
     /// The profile has only so many threads.
     NoThread { threads: u32 },
+    /// The search is over 256 bytes, or has over 8 terms.
+    LongSearch,
 }
 
 /// The answer to a request.
@@ -34,6 +38,8 @@ pub enum Reply {
     Done { version: u32 },
     /// A plain tree.
     Tree(Tree),
+    /// The markers that were found.
+    Markers(MarkerList),
     Refused(Refusal),
 }
 
@@ -140,6 +146,7 @@ fn refusal_text(refusal: Refusal) -> Line
             text.push_str("refused S4 NoThread ");
             push_number(&mut text, threads, "\n");
         }
+        Refusal::LongSearch => text.push_str("refused S23 LongSearch\n"),
     }
     text
 }
@@ -159,6 +166,10 @@ pub fn reply_text<S: Sink>(
         Reply::Refused(refusal) => copy_out(out, refusal_text(*refusal).as_str().as_bytes()),
         Reply::Tree(tree) => match thread {
             Some(thread) => write_tree(out, thread, tree),
+            None => unreachable!(),
+        },
+        Reply::Markers(markers) => match thread {
+            Some(thread) => write_markers(out, thread, markers.as_slice()),
             None => unreachable!(),
         },
     }

@@ -1,53 +1,61 @@
-// The words of the command line.
-ghost use Rattle.std.specs.Prelude.{◌≡◌, Some, None, Err, IfOk, ◌&&◌, codes};
-ghost use Rattle.std.specs.Str.{bytes_eq};
-ghost use Rattle.prof_desk.specs.Words.{order_of, texts_of, is_name};
+// The orders that are carried out.
+ghost use Rattle.prof_desk.specs.Words.{carried_out, order_of};
+ghost use Rattle.prof_words.specs.Reading.{Reads, texts_of};
 
 use prof_io::Text;
+use prof_words::WordRefusal;
 use std::alloc::Global;
 
-/// What the words ask for.
+/// What the words ask for, of what there is.
 #[derive(Drop)]
 pub enum Order {
     /// The call tree of the profile's first thread.
-    Tree { profile: Text },
+    Tree {
+        profile: Text,
+    },
+    /// The markers of a thread that a search finds.
+    Markers {
+        profile: Text,
+        thread: u32,
+        search: Text,
+    },
+    /// What a profile holds, in numbers.
+    Check {
+        profile: Text,
+    },
+    /// A profile that is made by a number.
+    Gen {
+        number: u32,
+    },
 }
 
-/// Why the words were refused.
-#[derive(Clone, Copy, Debug, PartialEq, Eq)]
-pub enum WordRefusal {
-    /// They ask for nothing that there is.
-    Usage,
-    NoMemory,
-}
-
-/// Reads the words.
+/// Reads the words. Those of a command that isn't carried out yet ask for nothing.
 pub fn read_words(alloc: Global, words: &[String]) -> Result<Order, WordRefusal>
-    ensures ok { IfOk result (λ order. order_of (texts_of words.now) ≡ Some order) }
-    // They are refused exactly where they ask for nothing that there is.
-    ensures usage { result ≡ Err WordRefusal.Usage → order_of (texts_of words.now) ≡ None }
-    ensures only { order_of (texts_of words.now) ≡ None → result ≡ Err WordRefusal.Usage }
+    ensures { Reads (order_of (texts_of words.now)) result }
 {
-    let [command, name] = words else {
-        return Err(WordRefusal::Usage);
-    };
-    let name = name.as_str();
-    if !is_tree(command.as_str(), name) {
-        return Err(WordRefusal::Usage);
-    }
-    let mut profile = Text::new(alloc);
-    match profile.push_str(name) {
-        Ok(()) => Ok(Order::Tree { profile }),
-        Err(_) => Err(WordRefusal::NoMemory),
+    match prof_words::read_words(alloc, words) {
+        Ok(order) => carried_out(order),
+        Err(refusal) => Err(refusal),
     }
 }
 
-/// Whether the words are `tree` and a file's name.
-fn is_tree(command: &str, name: &str) -> bool
-    ensures { result ≡ (bytes_eq command.now (codes "tree") && is_name name.now) }
+/// The order, where it is carried out.
+fn carried_out(order: prof_words::Order) -> Result<Order, WordRefusal>
+    ensures { Reads (carried_out order) result }
 {
-    match name.as_bytes() {
-        [] => false,
-        [first, ..] => command == "tree" && *first != b'-',
+    match order {
+        prof_words::Order::Tree { profile } => Ok(Order::Tree { profile }),
+        prof_words::Order::Markers {
+            profile,
+            thread,
+            search,
+        } => Ok(Order::Markers {
+            profile,
+            thread,
+            search,
+        }),
+        prof_words::Order::Check { profile } => Ok(Order::Check { profile }),
+        prof_words::Order::Gen { number } => Ok(Order::Gen { number }),
+        _ => Err(WordRefusal::Usage),
     }
 }

@@ -7,14 +7,14 @@ use Rattle.prof_raw.specs.declared.rule.ListFault.{ListFault}
 use Rattle.prof_raw.specs.Cells.{Cells, SharedCells, OwnCells}
 use Rattle.prof_layout.specs.Tables.{member_of, time_cells, has_deltas, weight_reading}
 use Rattle.prof_layout.proofs.KeptFrom.{tables_from, own_from}
-use Rattle.prof_read.specs.declared.shared.ResourceTable.{ResourceTable}
-use Rattle.prof_read.specs.declared.shared.FuncTable.{FuncTable}
-use Rattle.prof_read.specs.declared.shared.FrameTable.{FrameTable}
-use Rattle.prof_read.specs.declared.shared.StackTable.{StackTable}
+use Rattle.prof_members.specs.declared.shared.ResourceTable.{ResourceTable}
+use Rattle.prof_members.specs.declared.shared.FuncTable.{FuncTable}
+use Rattle.prof_members.specs.declared.shared.FrameTable.{FrameTable}
+use Rattle.prof_members.specs.declared.shared.StackTable.{StackTable}
 use Rattle.prof_layout.specs.Columns.{capped, column_of, read_cell}
 use Rattle.prof_layout.specs.Lists.{member_text}
-use Rattle.prof_read.specs.declared.samples.SampleTable.{SampleTable}
-use Rattle.prof_read.specs.declared.markers.MarkerTable.{MarkerTable}
+use Rattle.prof_members.specs.declared.samples.SampleTable.{SampleTable}
+use Rattle.prof_members.specs.declared.markers.MarkerTable.{MarkerTable}
 use Rattle.prof_read.specs.declared.raw.HeldStrings.{HeldStrings}
 use Rattle.prof_column.specs.Kept.{string_of}
 use Rattle.prof_read.specs.Raw.{HoldsStrings, AreResources, AreFuncs, AreFrames, AreStacks, AreSamples, AreMarkers}

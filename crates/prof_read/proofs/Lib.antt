@@ -1,17 +1,8 @@
-pub mod Begun
 pub mod Built
-pub mod FieldTexts
 pub mod Held
 pub mod Listing
-pub mod MoreItems
-pub mod OtherNames
 pub mod Profiling
 pub mod Refusing
-pub mod SampleMembers
-pub mod Slots
 pub mod Standing
-pub mod TableSlots
 pub mod Threading
-pub mod WholeLists
-pub mod SharedSlots
 pub mod Telling

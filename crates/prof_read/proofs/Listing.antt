@@ -1,5 +1,5 @@
 -- Threads that are built one after another, by the values that they were gathered of.
-use Rattle.std.proofs.Common.{◌≡◌, ℕ, zero, suc, ◌<◌, ◌+◌, Option, Some, None, List, [], ◌∷◌, ◌++◌, Bool, true, false, length, map, take, drop, get_or, refl, sym, ◌∙◌, ap, arith}
+use Rattle.std.proofs.Common.{◌≡◌, ℕ, zero, suc, ◌<◌, ◌+◌, Option, Some, None, List, [], ◌∷◌, ◌++◌, true, length, map, take, drop, get_or, refl, sym, ◌∙◌, ap, arith}
 use Rattle.std.specs.Prelude.{not, if◌then◌else◌}
 use Rattle.std.proofs.lemmas.List.{map-append, take_all}
 use Rattle.prof_grammar.specs.Value.{Value, Members}
@@ -8,8 +8,8 @@ use Rattle.prof_tables.specs.Threads.{ThreadTables}
 use Rattle.prof_layout.specs.Lists.{is_object, first_where}
 use Rattle.prof_layout.specs.Profile.{first_thread, thread_fails, thread_tables}
 use Rattle.prof_layout.proofs.Checking.{first_thread-push, first_thread-found}
-use Rattle.prof_read.specs.declared.threads.ThreadParts.{ThreadParts}
-use Rattle.prof_read.specs.Gathered.{AreThread, IsThread, AreThreads}
+use Rattle.prof_members.specs.declared.threads.ThreadParts.{ThreadParts}
+use Rattle.prof_members.specs.Gathered.{AreThread, IsThread, AreThreads}
 
 -- the threads of so many of the values are built, and none of them breaks a rule
 pub record AreBuilt (v : Value) (count : ℕ) (vs : List Value) (built : List ThreadTables) : Type 0 where

@@ -1,14 +1,13 @@
 -- The profile of a value, and the first check that it fails, by what was gathered of its members.
-use Rattle.std.proofs.Common.{◌≡◌, ℕ, suc, ◌≤◌, Option, None, Some, List, Bool, true, false, Err, length, map, take, refl, sym, subst, ◌∙◌, ap, arith, inl, inr}
+use Rattle.std.proofs.Common.{◌≡◌, ℕ, suc, Option, None, Some, List, Bool, false, Err, length, map, take, refl, sym, subst, ap, arith, inl, inr}
 use Rattle.prof_raw.specs.declared.limits.TheConstants.{MOST_THREADS}
-use Rattle.std.specs.Prelude.{codes, is_some, unwrap_or, nat_le}
+use Rattle.std.specs.Prelude.{codes, unwrap_or, nat_le}
 use Rattle.std.specs.Option.{option_map}
 use Rattle.std.proofs.lemmas.Bool.{cases_Bool}
 use Rattle.std.proofs.lemmas.List.{take_all}
-use Rattle.prof_grammar.specs.Value.{Value, Members, field, last_named, items}
+use Rattle.prof_grammar.specs.Value.{Value, field, items}
 use Rattle.prof_raw.specs.declared.rule.Table.TheVariants as table
 use Rattle.prof_raw.specs.declared.rule.Column.TheVariants as column
-use Rattle.prof_raw.specs.declared.rule.Broken.{Broken}
 use Rattle.prof_raw.specs.declared.rule.ListFault.{ListFault}
 use Rattle.prof_raw.specs.Checks.{named}
 use Rattle.prof_tables.specs.Threads.{ThreadTables}
@@ -21,12 +20,10 @@ use Rattle.prof_gather.specs.declared.objects.Found.TheVariants as found
 use Rattle.prof_gather.specs.Taking.{IsFound, IsFoundIn}
 use Rattle.prof_read.specs.declared.refusal.ReadRefusal.{ReadRefusal}
 use Rattle.prof_read.specs.declared.refusal.ReadRefusal.TheVariants as refusal
-use Rattle.prof_read.specs.declared.threads.ThreadParts.{ThreadParts}
-use Rattle.prof_read.specs.declared.lists.CategoryList.{CategoryList}
-use Rattle.prof_read.specs.declared.lists.ThreadList.{ThreadList}
-use Rattle.prof_read.specs.declared.parts.Meta.{Meta}
-use Rattle.prof_read.specs.declared.parts.ProfileParts.{ProfileParts}
-use Rattle.prof_read.specs.Gathered.{AreShared, AreThreads, IsCategoryList, IsThreadList, AreMeta, AreParts}
+use Rattle.prof_members.specs.declared.threads.ThreadParts.{ThreadParts}
+use Rattle.prof_members.specs.declared.parts.Meta.{Meta}
+use Rattle.prof_members.specs.declared.parts.ProfileParts.{ProfileParts}
+use Rattle.prof_members.specs.Gathered.{AreShared, AreThreads, IsCategoryList, IsThreadList, AreMeta, AreParts}
 use Rattle.prof_read.specs.Built.{ReadsAs}
 use Rattle.prof_read.proofs.Standing.{object_found, none_found, no_field}
 use Rattle.prof_read.proofs.Refusing.{fault_none}

@@ -1,23 +1,21 @@
 -- What threads stand on, by what was gathered of `shared`.
-use Rattle.std.proofs.Common.{◌≡◌, ℕ, suc, ◌≤◌, Option, Some, None, IfSome, List, Bool, true, false, length, map, take, refl, sym, ◌∙◌, ap, arith}
+use Rattle.std.proofs.Common.{◌≡◌, ℕ, suc, ◌≤◌, Option, Some, None, IfSome, List, Bool, true, false, length, take, refl, sym, ◌∙◌, ap, arith}
 use Rattle.prof_raw.specs.declared.limits.TheConstants.{MOST_STRINGS}
 use Rattle.std.specs.Prelude.{codes, is_some, unwrap_or}
 use Rattle.std.specs.Option.{option_map}
-use Rattle.std.proofs.lemmas.List.{take_all, length-map}
+use Rattle.std.proofs.lemmas.List.{take_all}
 use Rattle.prof_grammar.specs.Value.{Value, Members, field, last_named}
 use Rattle.prof_raw.specs.declared.raw.State.{State}
 use Rattle.prof_raw.specs.declared.raw.State.TheVariants.{Absent, NotArray, Array}
 use Rattle.prof_raw.specs.declared.rule.Table.TheVariants as table
 use Rattle.prof_raw.specs.declared.rule.Column.TheVariants as column
-use Rattle.prof_raw.specs.declared.rule.Broken.{Broken}
 use Rattle.prof_raw.specs.Cells.{SharedCells}
-use Rattle.prof_tables.specs.Threads.{SharedTables}
 use Rattle.prof_raw.specs.Checks.{named, shared_broken}
 use Rattle.prof_tables.specs.Rows.{shared_of}
 use Rattle.prof_layout.specs.Kept.{kept_shared}
 use Rattle.prof_layout.specs.Lists.{unless_null, is_object, texts_of}
 use Rattle.prof_layout.specs.Tables.{strings_fault, raw_shared}
-use Rattle.prof_layout.specs.Profile.{is_shared, shared_tables, shared_member, common_member, common_of, common_broken, category_names, default_category, base_broken}
+use Rattle.prof_layout.specs.Profile.{is_shared, shared_tables, shared_member, common_member, common_of, common_broken, category_names, base_broken}
 use Rattle.prof_layout.proofs.Checking.{common-few}
 use Rattle.prof_layout.proofs.KeptValue.{shared_breaks, shared_stands}
 use Rattle.prof_gather.specs.declared.objects.Found.{Found}

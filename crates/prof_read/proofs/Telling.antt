@@ -1,5 +1,5 @@
 -- What is told of a whole text: its profile, the first check that it fails, or the fault by which its reading ends.
-use Rattle.std.proofs.Common.{◌≡◌, ℕ, List, Option, None, Some, IfSome, Result, Ok, Err, sym, subst, ◌∙◌}
+use Rattle.std.proofs.Common.{◌≡◌, ℕ, List, Option, None, Some, IfSome, Result, Ok, Err, subst}
 use Rattle.std.specs.Result.{IfErr, IsErrAnd}
 use Rattle.prof_grammar.specs.Value.{Value}
 use Rattle.prof_grammar.specs.Accepted.{IsAccepted}
@@ -12,8 +12,8 @@ use Rattle.prof_gather.specs.Causes as gathering
 use Rattle.prof_gather.specs.Taking.{IsFound}
 use Rattle.prof_read.specs.declared.refusal.ReadRefusal.{ReadRefusal}
 use Rattle.prof_read.specs.declared.refusal.ReadRefusal.TheVariants as refusal
-use Rattle.prof_read.specs.declared.parts.ProfileParts.{ProfileParts}
-use Rattle.prof_read.specs.Gathered.{AreParts}
+use Rattle.prof_members.specs.declared.parts.ProfileParts.{ProfileParts}
+use Rattle.prof_members.specs.Gathered.{AreParts}
 use Rattle.prof_read.specs.Refusals.{ungathered}
 use Rattle.prof_read.specs.Bases.{IsBuilding}
 use Rattle.prof_read.specs.Built.{ReadsAs}

@@ -1,20 +1,16 @@
 -- What a thread fails and stands for, by what is kept of it.
-use Rattle.std.proofs.Common.{◌≡◌, ℕ, suc, ◌<◌, ◌≤◌, ◌+◌, Option, Some, None, IfSome, List, [], ◌∷◌, ◌++◌, Bool, true, false, length, map, take, drop, refl, sym, ◌∙◌, ap, arith, inl, inr}
+use Rattle.std.proofs.Common.{◌≡◌, ℕ, ◌≤◌, Option, Some, None, IfSome, List, true, false, length, refl, sym, ◌∙◌, ap}
 use Rattle.prof_raw.specs.declared.limits.TheConstants.{MOST_STRINGS}
-use Rattle.std.specs.Prelude.{codes, unwrap_or}
+use Rattle.std.specs.Prelude.{codes}
 use Rattle.std.specs.Option.{option_map}
-use Rattle.std.specs.List.{All}
-use Rattle.std.proofs.lemmas.Bool.{cases_Bool}
-use Rattle.prof_grammar.specs.Value.{Value, Members, field, last_named}
-use Rattle.prof_raw.specs.declared.rule.Broken.{Broken}
-use Rattle.prof_raw.specs.declared.rule.ListFault.{ListFault}
+use Rattle.prof_grammar.specs.Value.{Value, Members, last_named}
 use Rattle.prof_raw.specs.Cells.{ThreadCells, SharedCells, OwnCells}
-use Rattle.prof_tables.specs.Threads.{SharedTables, ThreadTables}
+use Rattle.prof_tables.specs.Threads.{SharedTables}
 use Rattle.prof_raw.specs.Checks.{own_broken, thread_broken}
 use Rattle.prof_tables.specs.Rows.{shared_of, thread_of}
 use Rattle.prof_layout.specs.Kept.{kept_shared, kept_own, kept_thread}
 use Rattle.prof_layout.specs.Tables.{shared_over, over_strings, raw_tables, raw_own, raw_thread}
-use Rattle.prof_layout.specs.Profile.{is_shared, shared_tables, common_member, common_of, common_broken, category_names, default_category, base_broken, thread_fails, thread_tables}
+use Rattle.prof_layout.specs.Profile.{is_shared, shared_tables, common_member, common_of, category_names, base_broken, thread_fails, thread_tables}
 use Rattle.prof_layout.proofs.Checking.{common-few}
 use Rattle.prof_layout.proofs.KeptFrom.{raw_tables-is}
 use Rattle.prof_layout.proofs.KeptValue.{own_breaks, own_stands, thread_breaks, thread_stands}

@@ -1,5 +1,5 @@
 -- What is built of a value that was gathered.
-use Rattle.std.specs.Prelude.{◌≡◌, ℕ, List, Option, Some, None, Result, Ok, Err, ⊤}
+use Rattle.std.specs.Prelude.{◌≡◌, Option, Some, None, Result, Ok, Err, ⊤}
 use Rattle.prof_raw.specs.declared.rule.Broken.{Broken}
 use Rattle.prof_read.specs.declared.refusal.ReadRefusal.{ReadRefusal}
 use Rattle.prof_read.specs.declared.refusal.ReadRefusal.TheVariants as refusal

@@ -1,12 +1,5 @@
-pub mod Ranges
-pub mod Gathered
-pub mod Columns
 pub mod Raw
 pub mod Bases
 pub mod Built
 pub mod Causes
 pub mod Refusals
-pub mod Names
-pub mod Fields
-pub mod SampleNames
-pub mod Named

@@ -1,19 +1,19 @@
 -- Raw tables of what was gathered of a table's member, which may be absent or no object.
-use Rattle.std.specs.Prelude.{◌≡◌, ℕ, suc, List, Bool, Option, Some, None, take, map, codes, is_some, string_bytes}
+use Rattle.std.specs.Prelude.{◌≡◌, ℕ, suc, List, Bool, Option, Some, None, take, codes, is_some}
 use Rattle.prof_raw.specs.declared.limits.TheConstants.{MOST_FUNCS, MOST_ROWS, MOST_SAMPLES, MOST_STRINGS}
-use Rattle.prof_grammar.specs.Value.{Value, Members, last_named}
+use Rattle.prof_grammar.specs.Value.{Value}
 use Rattle.prof_raw.specs.declared.rule.ListFault.{ListFault}
 use Rattle.prof_layout.specs.declared.reading.Reading.TheVariants as reading
-use Rattle.prof_layout.specs.Columns.{capped, column_of, any_cell, read_cell}
+use Rattle.prof_layout.specs.Columns.{capped}
 use Rattle.prof_layout.specs.Lists.{unless_null, texts_of}
 use Rattle.prof_layout.specs.Tables.{first_cells, needed_cells, optional_cells, member_of, said_length, weight_unit, has_markers, strings_fault}
-use Rattle.prof_read.specs.Gathered.{IsMarkerData, AreWeights}
-use Rattle.prof_read.specs.declared.samples.SampleTable.{SampleTable}
-use Rattle.prof_read.specs.declared.shared.ResourceTable.{ResourceTable}
-use Rattle.prof_read.specs.declared.shared.FuncTable.{FuncTable}
-use Rattle.prof_read.specs.declared.shared.FrameTable.{FrameTable}
-use Rattle.prof_read.specs.declared.shared.StackTable.{StackTable}
-use Rattle.prof_read.specs.declared.markers.MarkerTable.{MarkerTable}
+use Rattle.prof_members.specs.Gathered.{IsMarkerData, AreWeights}
+use Rattle.prof_members.specs.declared.samples.SampleTable.{SampleTable}
+use Rattle.prof_members.specs.declared.shared.ResourceTable.{ResourceTable}
+use Rattle.prof_members.specs.declared.shared.FuncTable.{FuncTable}
+use Rattle.prof_members.specs.declared.shared.FrameTable.{FrameTable}
+use Rattle.prof_members.specs.declared.shared.StackTable.{StackTable}
+use Rattle.prof_members.specs.declared.markers.MarkerTable.{MarkerTable}
 use Rattle.prof_read.specs.declared.raw.HeldStrings.{HeldStrings}
 
 -- whether there are resources, and their columns

@@ -10,19 +10,19 @@ ghost use Rattle.prof_layout.specs.Tables as layout;
 ghost use Rattle.prof_layout.specs.Kept as kept;
 ghost use Rattle.prof_gather.specs.Taking.{IsFoundIn};
 ghost use Rattle.prof_column.specs.Kept.{IsTextList, string_of};
-ghost use Rattle.prof_read.specs.Gathered.{AreResourceColumns, AreFuncColumns, AreFrameColumns, AreStackColumns, AreSampleColumns, AreMarkerColumns, AreShared, AreWeights};
+ghost use Rattle.prof_members.specs.Gathered.{AreResourceColumns, AreFuncColumns, AreFrameColumns, AreStackColumns, AreSampleColumns, AreMarkerColumns, AreShared, AreWeights};
 ghost use Rattle.prof_read.specs.Raw.{AreResources, AreFuncs, AreFrames, AreStacks, AreSamples, AreMarkers, HoldsStrings};
 ghost use Rattle.prof_raw.specs.declared.rule.ListFault.{ListFault};
 ghost use Rattle.prof_column.specs.declared.list.TextList.{TextList};
-ghost use Rattle.prof_read.specs.Ranges.{AreRanges};
+ghost use Rattle.prof_members.specs.Ranges.{AreRanges};
 
-use crate::lists::MarkerData;
-use crate::markers::MarkerTable;
-use crate::samples::{SampleTable, Weights};
-use crate::shared::{FrameTable, FuncTable, ResourceTable, SharedTables, StackTable};
 use prof_column::{TextList, empty_column};
 use prof_gather::Found;
 use prof_io::{NoMemory, Text};
+use prof_members::{
+    FrameTable, FuncTable, MarkerData, MarkerTable, ResourceTable, SampleTable, SharedTables,
+    StackTable, Weights,
+};
 use prof_raw::{ListFault, RawColumn, RawOwn, RawShared, State, Strings, Unit};
 use std::alloc::Global;
 use std::rc::Rc;

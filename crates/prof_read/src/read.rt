@@ -7,10 +7,10 @@ ghost use Rattle.sha2.specs.Sha256.{sha256};
 
 use crate::ReadRefusal;
 use crate::building::profile_of;
-use crate::parts::ProfileParts;
 use prof_gather::read_object;
 pub use prof_io::Digest;
 use prof_io::Source;
+use prof_members::ProfileParts;
 use prof_tables::Profile;
 use std::alloc::Global;
 

@@ -219,7 +219,7 @@ Adds-alike xs ys ks rows a some h = record {
 pub Owns-alike : (xs ys : List Weighed) (ks : List (List ℕ)) (rows : List Branch) → AreAlike xs ys → ((q : ℕ) → q < length rows → key ks q ≢ []) → Owns xs ks rows → Owns ys ks rows
 Owns-alike xs ys ks rows a some h = λ r lt. h r lt ∙ a.owns (key ks r) (some r lt)
 
-pub grown_alike : (xs ys : List Weighed) (ks : List (List ℕ)) (rows : List Branch) (look : ℕ × ℕ → Option ℕ) → AreAlike xs ys → IsGrown xs ks rows look → IsGrown ys ks rows look
+pub grown_alike : (xs ys : List Weighed) (ks : List (List ℕ)) (rows : List Branch) (look : Option ℕ × ℕ → Option ℕ) → AreAlike xs ys → IsGrown xs ks rows look → IsGrown ys ks rows look
 grown_alike xs ys ks rows look a g = record {
   table = g.table;
   adds = Adds-alike xs ys ks rows a (key-long ks rows look g.table) g.adds;

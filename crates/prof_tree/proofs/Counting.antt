@@ -49,11 +49,11 @@ many_nodes zs n f apart each =
     at_most (keys_of zs) n f apart (λ i h. (let e = each i h in in_order-has (node_cmp zs) (antisymm_of zs) (exact_of zs) (trans_of zs) (flat_map (λ x. prefixes (list_of x)) zs) (f i) (HasPrefix-has zs (f i) e.0 e.1)))
 
 -- rows that are nodes of the paths are at most as many as there are nodes
-pub nodes_within : (zs : List Weighed) (ks : List (List ℕ)) (rows : List Branch) (look : ℕ × ℕ → Option ℕ) → IsTable ks rows look → ((r : ℕ) → r < length rows → HasPrefix zs (key ks r)) → length rows ≤ length (keys_of zs)
+pub nodes_within : (zs : List Weighed) (ks : List (List ℕ)) (rows : List Branch) (look : Option ℕ × ℕ → Option ℕ) → IsTable ks rows look → ((r : ℕ) → r < length rows → HasPrefix zs (key ks r)) → length rows ≤ length (keys_of zs)
 nodes_within zs ks rows look t each = many_nodes zs (length rows) (key ks) t.apart (λ r h. (key-long ks rows look t r h, each r h))
 
 -- the rows of some of the paths are nodes of them all
-pub rows_are_nodes : (xs zs : List Weighed) (ks : List (List ℕ)) (rows : List Branch) (look : ℕ × ℕ → Option ℕ) → IsGrown xs ks rows look → ((p : List ℕ) → HasPrefix xs p → HasPrefix zs p) → length rows ≤ length (keys_of zs)
+pub rows_are_nodes : (xs zs : List Weighed) (ks : List (List ℕ)) (rows : List Branch) (look : Option ℕ × ℕ → Option ℕ) → IsGrown xs ks rows look → ((p : List ℕ) → HasPrefix xs p → HasPrefix zs p) → length rows ≤ length (keys_of zs)
 rows_are_nodes xs zs ks rows look g more =
     many_nodes zs (length rows) (key ks) g.table.apart (λ r h. (key-long ks rows look g.table r h, more (key ks r) (g.adds.in_paths r h)))
 

@@ -12,8 +12,6 @@ use Rattle.prof_tables.specs.Threads.{SharedTables, ThreadTables}
 use Rattle.prof_tables.specs.Paths.{path}
 use Rattle.prof_path.specs.declared.lists.Span.{Span}
 use Rattle.prof_path.specs.declared.transform.Implementation.{Implementation}
-use Rattle.prof_path.specs.declared.transform.Transform.{Transform}
-use Rattle.prof_path.specs.declared.transform.Range.{Range}
 use Rattle.prof_path.specs.Shown.{seen}
 use Rattle.prof_path.specs.Terms.{terms_of}
 use Rattle.prof_path.specs.Views.{ViewLists}

@@ -1,13 +1,12 @@
 -- Rows in whose paths terms occur
-use Rattle.std.proofs.Common.{◌≡◌, ℕ, ◌+◌, ◌<◌, ◌≤◌, Bool, true, false, ◌||◌, ◌&&◌, List, [], ◌∷◌, ◌++◌, length, take, replicate, get_or, Option, Some, None, inl, inr, sym, ap, ◌∙◌, subst, refl, arith}
+use Rattle.std.proofs.Common.{◌≡◌, ℕ, ◌+◌, ◌<◌, ◌≤◌, Bool, true, false, ◌||◌, ◌&&◌, List, [], ◌∷◌, ◌++◌, length, take, replicate, get_or, Option, Some, None, inl, inr, sym, ap, ◌∙◌, refl, arith}
 use Rattle.std.specs.Prelude.{slice_get, IfSome}
-use Rattle.std.specs.List.{All, list_any, list_all}
+use Rattle.std.specs.List.{list_any}
 use Rattle.std.specs.Option.{option_map_or}
 use Rattle.std.proofs.lemmas.List.{take_all, length-replicate, get_or-replicate}
 use Rattle.std.proofs.lemmas.List.Folds.{list_any-append, list_all_more}
 use Rattle.std.proofs.lemmas.Option.{get_or_from_slice_get}
 use Rattle.prof_tables.specs.declared.rows.StackRow.{StackRow}
-use Rattle.prof_tables.specs.declared.rows.Step.{Step}
 use Rattle.prof_tables.specs.Threads.{SharedTables}
 use Rattle.prof_tables.specs.Paths.{path, step_of, PrefixesBelow}
 use Rattle.prof_tables.proofs.PathLemmas.{path-row}

@@ -22,3 +22,4 @@ pub mod RowByRow
 pub mod ShownRows
 pub mod FoundRows
 pub mod FinalRows
+pub mod Climbed

@@ -3,7 +3,6 @@ use Rattle.std.proofs.Common.{◌≡◌, ◌≢◌, ℕ, zero, suc, ◌+◌, ◌
 use Rattle.std.specs.Prelude.{unsigned_abs, unwrap_or, slice_get}
 use Rattle.std.specs.Int.{w128}
 use Rattle.std.specs.Option.{IfSome, option_and_then, option_map_or}
-use Rattle.std.specs.BTreeMap.{get}
 use Rattle.std.proofs.lemmas.List.{get_or_append_left, take_all}
 use Rattle.std.proofs.lemmas.Option.{slice_get-get_or}
 use Rattle.std.proofs.Math.Seq.{get_or-append_seam}
@@ -14,7 +13,7 @@ use Rattle.prof_tables.proofs.PathLemmas.{path-row}
 use Rattle.prof_path.specs.Shown.{funcs}
 use Rattle.prof_tree.specs.declared.branch.Branch.{Branch}
 use Rattle.prof_tree.specs.Forest.{key, key_above, branch}
-use Rattle.prof_tree.specs.Growing.{IsTable, IsGrown, Adds, Owns, Index, IsChild, pair_cmp, stepped, ended}
+use Rattle.prof_tree.specs.Growing.{IsTable, IsGrown, Adds, Owns, IsChild, stepped, ended}
 use Rattle.prof_tree.specs.Nodes.{Weighed, total_at, own_at}
 use Rattle.prof_tree.specs.Sprouting.{AreSprouted, AreWeighed}
 use Rattle.prof_tree.specs.Weighing.{AreAlike, held, mass, no_row, path_upto, prefix_of, row_path, stands_on, weight_at, weight_through}
@@ -92,7 +91,7 @@ module _ (stacks : List StackRow) (own : List (Option ℤ)) (n : ℕ) (stack : S
       (λ row a b e. ap (λ k. path_upto stacks k row) (add-one n) ∙ upto_other stacks weighed.below n row e)
 
   -- no sample goes through the row
-  pub sprouted_none : (ks : List (List ℕ)) (rows : List Branch) (look : ℕ × ℕ → Option ℕ) (nodes : List (Option ℕ)) → weight_through stacks own n ≡ None
+  pub sprouted_none : (ks : List (List ℕ)) (rows : List Branch) (look : Option ℕ × ℕ → Option ℕ) (nodes : List (Option ℕ)) → weight_through stacks own n ≡ None
       → AreSprouted stacks own n ks rows look nodes → AreSprouted stacks own (n + 1) ks rows look (nodes ++ None ∷ [])
   sprouted_none ks rows look nodes none s =
       record {
@@ -123,7 +122,7 @@ module _ (stacks : List StackRow) (own : List (Option ℤ)) (n : ℕ) (stack : S
       ]
 
   -- samples of weight w go through it
-  module _ (w : ℤ) (ks : List (List ℕ)) (rows : List Branch) (look : ℕ × ℕ → Option ℕ) (nodes : List (Option ℕ)) (some : weight_through stacks own n ≡ Some w) (s : AreSprouted stacks own n ks rows look nodes) where
+  module _ (w : ℤ) (ks : List (List ℕ)) (rows : List Branch) (look : Option ℕ × ℕ → Option ℕ) (nodes : List (Option ℕ)) (some : weight_through stacks own n ≡ Some w) (s : AreSprouted stacks own n ks rows look nodes) where
     abbrev pub parent : Option ℕ
     parent = option_and_then (λ p. get_or nodes p None) stack.prefix
 
@@ -189,8 +188,8 @@ module _ (stacks : List StackRow) (own : List (Option ℤ)) (n : ℕ) (stack : S
         shorter = length-path_within stacks (length stacks) stack.prefix
 
     -- its row, once it is there
-    module _ (rows' : List Branch) (index index' : Index) (depth r : ℕ) (looks : look ≡ get pair_cmp index) (deep : depth ≡ option_map_or (λ m. (branch rows m).depth + 1) parent 0) (is_child : IsChild rows index rows' index' parent depth (step_of stack) r) where
-      walk' : Walk [] others_held w front ks rows (get pair_cmp index) parent
+    module _ (rows' : List Branch) (look0 look' : Option ℕ × ℕ → Option ℕ) (depth r : ℕ) (looks : look ≡ look0) (deep : depth ≡ option_map_or (λ m. (branch rows m).depth + 1) parent 0) (is_child : IsChild rows look0 rows' look' parent depth (step_of stack) r) where
+      walk' : Walk [] others_held w front ks rows look0 parent
       walk' = subst (λ l. Walk [] others_held w front ks rows l parent) looks walk
 
       depth_same : depth ≡ length front
@@ -200,8 +199,8 @@ module _ (stacks : List StackRow) (own : List (Option ℤ)) (n : ℕ) (stack : S
           by None e = sym (sym (length-funcs front) ∙ ap length (sym place ∙ ap (key_above ks) e))
           by (Some m) e = depth_is m e
 
-      child_there : (ks' : List (List ℕ)) × AtChild [] others_held w front (step_of stack) ks' rows' (get pair_cmp index') r × ((q : ℕ) → q < length rows → (key ks' q ≡ key ks q) × (q < length rows'))
-      child_there = at_child others_held w front (step_of stack) [] (λ p h. absurd h) ks rows rows' index index' parent depth r depth_same is_child walk'
+      child_there : (ks' : List (List ℕ)) × AtChild [] others_held w front (step_of stack) ks' rows' look' r × ((q : ℕ) → q < length rows → (key ks' q ≡ key ks q) × (q < length rows'))
+      child_there = at_child others_held w front (step_of stack) [] (λ p h. absurd h) ks rows rows' look0 look' parent depth r depth_same is_child walk'
 
       pub child_in : r < length rows'
       child_in = child_there.1.ready.in_rows
@@ -221,13 +220,13 @@ module _ (stacks : List StackRow) (own : List (Option ℤ)) (n : ℕ) (stack : S
 
       -- and once it has the weight
       module _ (rows'' : List Branch) (is_set : rows'' ≡ set rows' r (stepped (branch rows' r) (step_of stack) (to_z w128 (of_z w128 w)))) where
-        stepped_walk : Walk [] others_held w (front ++ step_of stack ∷ []) child_there.0 rows'' (get pair_cmp index') (Some r)
-        stepped_walk = Walk-more others_held w front (step_of stack) [] child_there.0 rows' rows'' (get pair_cmp index') r (is_set ∙ ap (λ z. set rows' r (stepped (branch rows' r) (step_of stack) z)) same_w) child_there.1
+        stepped_walk : Walk [] others_held w (front ++ step_of stack ∷ []) child_there.0 rows'' look' (Some r)
+        stepped_walk = Walk-more others_held w front (step_of stack) [] child_there.0 rows' rows'' look' r (is_set ∙ ap (λ z. set rows' r (stepped (branch rows' r) (step_of stack) z)) same_w) child_there.1
 
         longer : length rows'' ≡ length rows'
         longer = ap length is_set ∙ length-set rows' r _
 
-        pub sprouted_some : (ks' : List (List ℕ)) × AreSprouted stacks own (n + 1) ks' rows'' (get pair_cmp index') (nodes ++ Some r ∷ [])
+        pub sprouted_some : (ks' : List (List ℕ)) × AreSprouted stacks own (n + 1) ks' rows'' look' (nodes ++ Some r ∷ [])
         sprouted_some = (
           child_there.0,
           record {
@@ -236,7 +235,7 @@ module _ (stacks : List StackRow) (own : List (Option ℤ)) (n : ℕ) (stack : S
                 (alike_back (held (path_upto stacks (n + 1)) 0 own) (others_held ++ record { steps = front ++ step_of stack ∷ []; weight = w } ∷ [])
                 (subst (λ x. AreAlike (held (path_upto stacks (n + 1)) 0 own) (others_held ++ record { steps = x; weight = w } ∷ [])) own_path_is
                 (subst (λ o. AreAlike (held (path_upto stacks (n + 1)) 0 own) (others_held ++ as_path (path_at n) o)) some with_row)))
-                (key-long child_there.0 rows'' (get pair_cmp index') stepped_walk.table) stepped_walk.adds;
+                (key-long child_there.0 rows'' look' stepped_walk.table) stepped_walk.adds;
             owns = stepped_walk.owns;
             len = length-snoc nodes (Some r) ∙ ap (λ k. k + 1) s.len;
             placed = placed;
@@ -264,7 +263,7 @@ abbrev none_of : (A : Type 0) → List A
 none_of A = []
 
 -- before the first stack row
-pub sprouted_first : (stacks : List StackRow) (below : PrefixesBelow stacks) (own : List (Option ℤ)) (look : ℕ × ℕ → Option ℕ) → ((q : ℕ × ℕ) → look q ≡ None) → AreSprouted stacks own 0 [] [] look []
+pub sprouted_first : (stacks : List StackRow) (below : PrefixesBelow stacks) (own : List (Option ℤ)) (look : Option ℕ × ℕ → Option ℕ) → ((q : Option ℕ × ℕ) → look q ≡ None) → AreSprouted stacks own 0 [] [] look []
 sprouted_first stacks below own look none =
     let g = IsGrown-none look none in
     record {
@@ -281,14 +280,14 @@ sprouted_first stacks below own look none =
     nothing (suc q) = refl
 
 -- the self weights of the first so many rows
-pub record AreEnded (stacks : List StackRow) (own : List (Option ℤ)) (n : ℕ) (ks : List (List ℕ)) (rows : List Branch) (look : ℕ × ℕ → Option ℕ) (nodes : List (Option ℕ)) : Type 0 where
+pub record AreEnded (stacks : List StackRow) (own : List (Option ℤ)) (n : ℕ) (ks : List (List ℕ)) (rows : List Branch) (look : Option ℕ × ℕ → Option ℕ) (nodes : List (Option ℕ)) : Type 0 where
   pub table : IsTable ks rows look
   pub adds : Adds (held (row_path stacks) 0 own) ks rows
   pub owns : Owns (held (row_path stacks) 0 (take n own)) ks rows
   pub placed : (q m : ℕ) → get_or nodes q None ≡ Some m → (m < length rows) × (key ks m ≡ funcs (row_path stacks q))
   pub found : (q : ℕ) (w : ℤ) → q < length stacks → get_or own q None ≡ Some w → (m : ℕ) × (get_or nodes q None ≡ Some m)
 
-module _ (stacks : List StackRow) (own : List (Option ℤ)) (weighed : AreWeighed stacks own) (ks : List (List ℕ)) (look : ℕ × ℕ → Option ℕ) (nodes : List (Option ℕ)) where
+module _ (stacks : List StackRow) (own : List (Option ℤ)) (weighed : AreWeighed stacks own) (ks : List (List ℕ)) (look : Option ℕ × ℕ → Option ℕ) (nodes : List (Option ℕ)) where
   pub ended_first : (rows : List Branch) → AreSprouted stacks own (length stacks) ks rows look nodes → AreEnded stacks own 0 ks rows look nodes
   ended_first rows s = record {
     table = s.table;

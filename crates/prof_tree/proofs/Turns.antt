@@ -3,34 +3,32 @@ use Rattle.std.proofs.Common.{◌≡◌, ◌≢◌, ℕ, ◌-◌, ◌*◌, ◌<�
 use Rattle.std.specs.List.{filter}
 use Rattle.std.specs.Int.{w128}
 use Rattle.std.specs.Cmp.Lexicographic.{pointwise}
-use Rattle.std.specs.Ordering.{is_eq}
-use Rattle.std.specs.BTreeMap.{get}
 use Rattle.std.proofs.lemmas.Int.{ints}
 use Rattle.std.proofs.lemmas.Bool.{false≢true}
 use Rattle.prof_tables.specs.declared.rows.Step.{Step}
 use Rattle.prof_path.specs.Shown.{funcs}
 use Rattle.prof_tree.specs.declared.branch.Branch.{Branch}
 use Rattle.prof_tree.specs.Nodes.{Weighed, total, total_at, own_at, common, categories_at}
-use Rattle.prof_tree.specs.Forest.{EachOf, HasPrefix, key, key_above, branch, no_branch, link}
-use Rattle.prof_tree.specs.Growing.{IsTable, Adds, Owns, merged, Ready, pair_cmp, Index, IsChild, stepped, ended, IsSmall, IsGrown}
+use Rattle.prof_tree.specs.Forest.{EachOf, HasPrefix, key, key_above, branch, no_branch}
+use Rattle.prof_tree.specs.Growing.{IsTable, Adds, Owns, merged, Ready, pair_eq, IsChild, stepped, ended, IsSmall, IsGrown}
 use Rattle.prof_tree.proofs.PathSteps.{list1, length-funcs, starts, category_in, t0, t1, here, none_through, none_ending, categories-no, categories-yes, total_at-no, starts-here, HasPrefix-left, HasPrefix-cases, here-category, Ready-old, Adds-step, is-same, same-is, own_at-yes, own_at-no, same_number, number_same}
 use Rattle.prof_tree.proofs.Walking.{at_left, at_last, key_left, key_last, in_or_last, length-snoc, long, snoc-not-nil, no_key, IsTable-more}
 
-pub key-long : (ks : List (List ℕ)) (rows : List Branch) (look : ℕ × ℕ → Option ℕ) → IsTable ks rows look → (q : ℕ) → q < length rows → key ks q ≢ []
+pub key-long : (ks : List (List ℕ)) (rows : List Branch) (look : Option ℕ × ℕ → Option ℕ) → IsTable ks rows look → (q : ℕ) → q < length rows → key ks q ≢ []
 key-long ks rows look t q h e = snoc-not-nil _ _ (sym (t.keys q h) ∙ e)
 
 -- rows with the same parents, functions and depths
-IsTable-alike : (ks : List (List ℕ)) (rows rows' : List Branch) (look look' : ℕ × ℕ → Option ℕ) → length rows' ≡ length rows
+IsTable-alike : (ks : List (List ℕ)) (rows rows' : List Branch) (look look' : Option ℕ × ℕ → Option ℕ) → length rows' ≡ length rows
     → ((q : ℕ) → q < length rows → ((branch rows' q).parent ≡ (branch rows q).parent) × ((branch rows' q).func ≡ (branch rows q).func) × ((branch rows' q).depth ≡ (branch rows q).depth))
-    → ((q : ℕ × ℕ) → look' q ≡ look q) → IsTable ks rows look → IsTable ks rows' look'
+    → ((q : Option ℕ × ℕ) → look' q ≡ look q) → IsTable ks rows look → IsTable ks rows' look'
 IsTable-alike ks rows rows' look look' n same ask t = record {
   len = t.len ∙ sym n;
   keys = λ r h. (let s = same r (inside r h) in t.keys r (inside r h) ∙ ap (λ o. key_above ks o ++ (branch rows r).func ∷ []) (sym s.0) ∙ ap (λ f. key_above ks (branch rows' r).parent ++ f ∷ []) (sym s.1));
   above = λ r p h e. outside p (t.above r p (inside r h) (sym (same r (inside r h)).0 ∙ e));
   apart = λ q r h k e. t.apart q r (inside q h) (inside r k) e;
   depths = λ r h. (same r (inside r h)).2 ∙ t.depths r (inside r h);
-  has = λ r h. (let s = same r (inside r h) in ask (link (branch rows' r).parent, (branch rows' r).func) ∙ ap (λ o. look (link o, (branch rows' r).func)) s.0 ∙ ap (λ f. look (link (branch rows r).parent, f)) s.1 ∙ t.has r (inside r h));
-  finds = λ o f r e. (let w = t.finds o f r (sym (ask (link o, f)) ∙ e) in let s = same r w.0 in (outside r w.0, s.0 ∙ w.1, s.1 ∙ w.2));
+  has = λ r h. (let s = same r (inside r h) in ask ((branch rows' r).parent, (branch rows' r).func) ∙ ap (λ o. look (o, (branch rows' r).func)) s.0 ∙ ap (λ f. look ((branch rows r).parent, f)) s.1 ∙ t.has r (inside r h));
+  finds = λ o f r e. (let w = t.finds o f r (sym (ask (o, f)) ∙ e) in let s = same r w.0 in (outside r w.0, s.0 ∙ w.1, s.1 ∙ w.2));
 }
   where
     inside : (q : ℕ) → q < length rows' → q < length rows
@@ -47,7 +45,7 @@ at_set part rows r b lt e q =
       | false ↦ λ k. ap part (get_or-set_other rows r q b no_branch (λ s. false≢true (sym k ∙ number_same q r s)))
     ] refl
 
-IsTable-set : (ks : List (List ℕ)) (rows : List Branch) (look : ℕ × ℕ → Option ℕ) (r : ℕ) (b : Branch) → r < length rows → b.parent ≡ (branch rows r).parent → b.func ≡ (branch rows r).func → b.depth ≡ (branch rows r).depth → IsTable ks rows look → IsTable ks (set rows r b) look
+IsTable-set : (ks : List (List ℕ)) (rows : List Branch) (look : Option ℕ × ℕ → Option ℕ) (r : ℕ) (b : Branch) → r < length rows → b.parent ≡ (branch rows r).parent → b.func ≡ (branch rows r).func → b.depth ≡ (branch rows r).depth → IsTable ks rows look → IsTable ks (set rows r b) look
 IsTable-set ks rows look r b lt p f d t =
     IsTable-alike ks rows (set rows r b) look look (length-set rows r b) (λ q h. (at_set (λ (b : Branch). b.parent) rows r b lt p q, at_set (λ (b : Branch). b.func) rows r b lt f q, at_set (λ (b : Branch). b.depth) rows r b lt d q)) (λ q. refl) t
 
@@ -55,7 +53,7 @@ Owns-set : (xs : List Weighed) (ks : List (List ℕ)) (rows : List Branch) (r : 
 Owns-set xs ks rows r b lt e o q h = at_set (λ (b : Branch). b.own) rows r b lt e q ∙ o q (subst (λ n. q < n) (length-set rows r b) h)
 
 -- while a path is walked, after the steps x, at a row, where the self weights are those of `os`
-pub record Walk (os xs : List Weighed) (w : ℤ) (x : List Step) (ks : List (List ℕ)) (rows : List Branch) (look : ℕ × ℕ → Option ℕ) (at : Option ℕ) : Type 0 where
+pub record Walk (os xs : List Weighed) (w : ℤ) (x : List Step) (ks : List (List ℕ)) (rows : List Branch) (look : Option ℕ × ℕ → Option ℕ) (at : Option ℕ) : Type 0 where
   pub table : IsTable ks rows look
   pub adds : Adds (xs ++ record { steps = x; weight = w } ∷ []) ks rows
   pub owns : Owns os ks rows
@@ -63,7 +61,7 @@ pub record Walk (os xs : List Weighed) (w : ℤ) (x : List Step) (ks : List (Lis
   pub at_in : (p : ℕ) → at ≡ Some p → p < length rows
 
 -- the rows once a child is there, and before its row takes the step
-pub record AtChild (os xs : List Weighed) (w : ℤ) (x : List Step) (s : Step) (ks : List (List ℕ)) (rows : List Branch) (look : ℕ × ℕ → Option ℕ) (r : ℕ) : Type 0 where
+pub record AtChild (os xs : List Weighed) (w : ℤ) (x : List Step) (s : Step) (ks : List (List ℕ)) (rows : List Branch) (look : Option ℕ × ℕ → Option ℕ) (r : ℕ) : Type 0 where
   pub table : IsTable ks rows look
   pub owns : Owns os ks rows
   pub ready : Ready xs w x s ks rows r
@@ -106,34 +104,34 @@ module _ (xs : List Weighed) (w : ℤ) (x : List Step) (s : Step) where
       absent h = let o = a.whole (here xs w x s) (snoc-not-nil (funcs x) s.func) (HasPrefix-left xs (t0 xs w x s) (here xs w x s) h) in none o.0 o.1 o.2
 
   -- a child stood, or is added
-  pub at_child : (os : List Weighed) → ((p : List ℕ) → HasPrefix os p → HasPrefix (xs ++ t0 xs w x s ∷ []) p) → (ks : List (List ℕ)) (rows rows' : List Branch) (index index' : Index) (o : Option ℕ) (depth r : ℕ) → depth ≡ length x → IsChild rows index rows' index' o depth s r → Walk os xs w x ks rows (get pair_cmp index) o → (ks' : List (List ℕ)) × AtChild os xs w x s ks' rows' (get pair_cmp index') r × ((q : ℕ) → q < length rows → (key ks' q ≡ key ks q) × (q < length rows'))
-  at_child os within ks rows rows' index index' o depth r deep child k = go (get pair_cmp index (link o, s.func)) refl child
+  pub at_child : (os : List Weighed) → ((p : List ℕ) → HasPrefix os p → HasPrefix (xs ++ t0 xs w x s ∷ []) p) → (ks : List (List ℕ)) (rows rows' : List Branch) (look look' : Option ℕ × ℕ → Option ℕ) (o : Option ℕ) (depth r : ℕ) → depth ≡ length x → IsChild rows look rows' look' o depth s r → Walk os xs w x ks rows look o → (ks' : List (List ℕ)) × AtChild os xs w x s ks' rows' look' r × ((q : ℕ) → q < length rows → (key ks' q ≡ key ks q) × (q < length rows'))
+  at_child os within ks rows rows' look look' o depth r deep child k = go (look (o, s.func)) refl child
     where
       b : Branch
       b = record { parent = o; depth = depth; func = s.func; total = pos 0; own = pos 0; category = Some s.category }
 
-      go : (m : Option ℕ) → get pair_cmp index (link o, s.func) ≡ m
-          → MatchOption m ((r ≡ length rows) × (rows' ≡ rows ++ record { parent = o; depth = depth; func = s.func; total = pos 0; own = pos 0; category = Some s.category } ∷ []) × ((q : ℕ × ℕ) → get pair_cmp index' q ≡ cond (is_eq (pair_cmp (link o, s.func) q)) (Some r) (get pair_cmp index q)))
-          (λ found. (r ≡ found) × (rows' ≡ rows) × ((q : ℕ × ℕ) → get pair_cmp index' q ≡ get pair_cmp index q))
-          → (ks' : List (List ℕ)) × AtChild os xs w x s ks' rows' (get pair_cmp index') r × ((q : ℕ) → q < length rows → (key ks' q ≡ key ks q) × (q < length rows'))
+      go : (m : Option ℕ) → look (o, s.func) ≡ m
+          → MatchOption m ((r ≡ length rows) × (rows' ≡ rows ++ record { parent = o; depth = depth; func = s.func; total = pos 0; own = pos 0; category = Some s.category } ∷ []) × ((q : Option ℕ × ℕ) → look' q ≡ cond (pair_eq (o, s.func) q) (Some r) (look q)))
+          (λ found. (r ≡ found) × (rows' ≡ rows) × ((q : Option ℕ × ℕ) → look' q ≡ look q))
+          → (ks' : List (List ℕ)) × AtChild os xs w x s ks' rows' look' r × ((q : ℕ) → q < length rows → (key ks' q ≡ key ks q) × (q < length rows'))
       go (Some found) e h =
           let w' = k.table.finds o s.func found e in
           let key_is : key ks found ≡ here xs w x s = k.table.keys found w'.0 ∙ ap (λ m. key_above ks m ++ (branch rows found).func ∷ []) w'.1 ∙ ap (λ f. key_above ks o ++ f ∷ []) w'.2 ∙ ap (λ z. z ++ s.func ∷ []) k.place in (
             ks,
-            subst (λ r. AtChild os xs w x s ks rows' (get pair_cmp index') r) (sym h.0) (subst (λ rows'. AtChild os xs w x s ks rows' (get pair_cmp index') found) (sym h.1) (record {
-              table = IsTable-alike ks rows rows (get pair_cmp index) (get pair_cmp index') refl (λ q _. (refl, refl, refl)) h.2 k.table;
+            subst (λ r. AtChild os xs w x s ks rows' look' r) (sym h.0) (subst (λ rows'. AtChild os xs w x s ks rows' look' found) (sym h.1) (record {
+              table = IsTable-alike ks rows rows look look' refl (λ q _. (refl, refl, refl)) h.2 k.table;
               owns = k.owns;
               ready = Ready-old xs w x s ks rows k.table.apart found w'.0 key_is k.adds;
             })),
             λ q lt. (refl, subst (λ z. q < length z) (sym h.1) lt),
           )
       go None e h =
-          let look' : (q : ℕ × ℕ) → get pair_cmp index' q ≡ cond (is_eq (pair_cmp (link o, s.func) q)) (Some (length rows)) (get pair_cmp index q) = λ q. h.2 q ∙ ap (λ r. cond (is_eq (pair_cmp (link o, s.func) q)) (Some r) (get pair_cmp index q)) h.0 in
+          let asked : (q : Option ℕ × ℕ) → look' q ≡ cond (pair_eq (o, s.func) q) (Some (length rows)) (look q) = λ q. h.2 q ∙ ap (λ r. cond (pair_eq (o, s.func) q) (Some r) (look q)) h.0 in
           let same : key_above ks o ++ s.func ∷ [] ≡ here xs w x s = ap (λ z. z ++ s.func ∷ []) k.place in
-          let none : (q : ℕ) → q < length rows → key ks q ≢ here xs w x s = λ q lt eq. no_key ks rows (get pair_cmp index) (get pair_cmp index') o s.func b k.table k.at_in e refl refl (deep ∙ sym (length-funcs x) ∙ ap length (sym k.place)) look' q lt (eq ∙ sym same) in (
+          let none : (q : ℕ) → q < length rows → key ks q ≢ here xs w x s = λ q lt eq. no_key ks rows look look' o s.func b k.table k.at_in e refl refl (deep ∙ sym (length-funcs x) ∙ ap length (sym k.place)) asked q lt (eq ∙ sym same) in (
             ks ++ here xs w x s ∷ [],
-            subst (λ r. AtChild os xs w x s (ks ++ here xs w x s ∷ []) rows' (get pair_cmp index') r) (sym h.0) (subst (λ rows'. AtChild os xs w x s (ks ++ here xs w x s ∷ []) rows' (get pair_cmp index') (length rows)) (sym h.1) (record {
-              table = subst (λ z. IsTable (ks ++ z ∷ []) (rows ++ b ∷ []) (get pair_cmp index')) same (IsTable-more ks rows (get pair_cmp index) (get pair_cmp index') o s.func b k.table k.at_in e refl refl (deep ∙ sym (length-funcs x) ∙ ap length (sym k.place)) look');
+            subst (λ r. AtChild os xs w x s (ks ++ here xs w x s ∷ []) rows' look' r) (sym h.0) (subst (λ rows'. AtChild os xs w x s (ks ++ here xs w x s ∷ []) rows' look' (length rows)) (sym h.1) (record {
+              table = subst (λ z. IsTable (ks ++ z ∷ []) (rows ++ b ∷ []) look') same (IsTable-more ks rows look look' o s.func b k.table k.at_in e refl refl (deep ∙ sym (length-funcs x) ∙ ap length (sym k.place)) asked);
               owns = owns-new none;
               ready = Ready-new ks rows b k.table.len none refl refl k.adds;
             })),
@@ -149,7 +147,7 @@ module _ (xs : List Weighed) (w : ℤ) (x : List Step) (s : Step) where
           ]
 
   -- and its row takes the step
-  pub Walk-more : (os : List Weighed) (ks : List (List ℕ)) (rows rows' : List Branch) (look : ℕ × ℕ → Option ℕ) (r : ℕ) → rows' ≡ set rows r (stepped (branch rows r) s w) → AtChild os xs w x s ks rows look r → Walk os xs w (x ++ s ∷ []) ks rows' look (Some r)
+  pub Walk-more : (os : List Weighed) (ks : List (List ℕ)) (rows rows' : List Branch) (look : Option ℕ × ℕ → Option ℕ) (r : ℕ) → rows' ≡ set rows r (stepped (branch rows r) s w) → AtChild os xs w x s ks rows look r → Walk os xs w (x ++ s ∷ []) ks rows' look (Some r)
   Walk-more os ks rows rows' look r is_set a =
       let b = stepped (branch rows r) s w in
       record {
@@ -168,7 +166,7 @@ module _ (ks : List (List ℕ)) (rows : List Branch) (r : ℕ) (w : ℤ) (lt : r
   inside_end : (q : ℕ) → q < length (set rows r ended_row) → q < length rows
   inside_end q h = subst (λ n. q < n) (length-set rows r ended_row) h
 
-  pub Table-end : (look : ℕ × ℕ → Option ℕ) → IsTable ks rows look → IsTable ks (set rows r ended_row) look
+  pub Table-end : (look : Option ℕ × ℕ → Option ℕ) → IsTable ks rows look → IsTable ks (set rows r ended_row) look
   Table-end look t = IsTable-set ks rows look r ended_row lt refl refl refl t
 
   pub Adds-end : (xs : List Weighed) → Adds xs ks rows → Adds xs ks (set rows r ended_row)
@@ -192,7 +190,7 @@ module _ (ks : List (List ℕ)) (rows : List Branch) (r : ℕ) (w : ℤ) (lt : r
   ] refl
 
 -- before the first step
-module _ (xs : List Weighed) (w : ℤ) (ks : List (List ℕ)) (rows : List Branch) (look : ℕ × ℕ → Option ℕ) where
+module _ (xs : List Weighed) (w : ℤ) (ks : List (List ℕ)) (rows : List Branch) (look : Option ℕ × ℕ → Option ℕ) where
   abbrev empty : Weighed
   empty = record { steps = []; weight = w }
 

@@ -1,25 +1,28 @@
 -- The rows while paths are walked
-use Rattle.std.proofs.Common.{◌≡◌, ◌≢◌, ℕ, ◌+◌, ◌-◌, ◌<◌, true, false, cond, eqb, List, [], ◌∷◌, ◌++◌, length, Option, Some, None, ◌⊎◌, inl, inr, sym, ap, ◌∙◌, subst, refl, length-append, arith}
-use Rattle.std.specs.Ordering.{ordering_then, nat_cmp, is_eq}
-use Rattle.std.specs.declared.cmp.Ordering.{Ordering}
-use Rattle.std.specs.declared.cmp.Ordering.TheVariants.{Less, Equal, Greater}
+use Rattle.std.proofs.Common.{◌≡◌, ◌≢◌, ℕ, ◌+◌, ◌-◌, ◌<◌, Bool, true, false, cond, ◌&&◌, eqb, List, [], ◌∷◌, ◌++◌, length, Option, Some, None, ◌⊎◌, inl, inr, sym, ap, ◌∙◌, subst, refl, length-append, arith}
 use Rattle.std.proofs.lemmas.List.{get_or_append_left}
 use Rattle.std.proofs.Math.Seq.{get_or-append_seam}
 use Rattle.std.proofs.lemmas.Bool.Decides.{nat_tests}
-use Rattle.std.proofs.lemmas.Cmp.{tied_itself, nat_cmp_total}
-use Rattle.std.proofs.lemmas.Map.Lookups.{exact_unsigned, exact_pairs}
+use Rattle.std.proofs.lemmas.Bool.{false≢true}
 use Rattle.prof_tree.specs.declared.branch.Branch.{Branch}
-use Rattle.prof_tree.specs.Forest.{key, key_above, branch, no_branch, link}
-use Rattle.prof_tree.specs.Growing.{IsTable, pair_cmp}
-use Rattle.prof_tree.proofs.PathSteps.{same_number}
+use Rattle.prof_tree.specs.Forest.{key, key_above, branch, no_branch}
+use Rattle.prof_tree.specs.Growing.{IsTable, pair_eq}
+use Rattle.prof_tree.proofs.PathSteps.{same_number, number_same}
 
-same_pair : (p q : ℕ × ℕ) → pair_cmp p q ≡ Equal → p ≡ q
-same_pair = exact_pairs nat_cmp nat_cmp exact_unsigned exact_unsigned
+-- pairs are the same where both parts are
+same_pair : (p q : Option ℕ × ℕ) → pair_eq p q ≡ true → p ≡ q
+same_pair (None, f) (None, g) h = let root : ℕ → Option ℕ × ℕ = λ n. (None, n) in ap root (same_number f g h)
+same_pair (None, f) (Some m, g) h = absurd (false≢true h)
+same_pair (Some o, f) (None, g) h = absurd (false≢true h)
+same_pair (Some o, f) (Some m, g) h = both (eqb o m) refl h
+  where
+    both : (e : Bool) → eqb o m ≡ e → (e && eqb f g) ≡ true → let one : Option ℕ × ℕ = (Some o, f) in let other : Option ℕ × ℕ = (Some m, g) in one ≡ other
+    both true k h = (let pair : ℕ → ℕ → Option ℕ × ℕ = λ o f. (Some o, f) in ap (pair o) (same_number f g h) ∙ ap (λ n. pair n g) (same_number o m k))
+    both false k h = absurd (false≢true h)
 
-eq-Equal : (o : Ordering) → is_eq o ≡ true → o ≡ Equal
-eq-Equal Less h = cc
-eq-Equal Equal h = refl
-eq-Equal Greater h = cc
+pair_itself : (q : Option ℕ × ℕ) → pair_eq q q ≡ true
+pair_itself (None, f) = number_same f f refl
+pair_itself (Some o, f) = ap (λ e. e && eqb f f) (number_same o o refl) ∙ number_same f f refl
 
 pub snoc-not-nil : (u : List ℕ) (a : ℕ) → (u ++ a ∷ []) ≢ []
 snoc-not-nil [] a h = cc
@@ -59,9 +62,9 @@ pub length-snoc : {X : Type 0} (xs : List X) (x : X) → length (xs ++ x ∷ [])
 length-snoc xs x = length-append xs (x ∷ [])
 
 -- the rows with a child that is new
-module _ (ks : List (List ℕ)) (rows : List Branch) (look look' : ℕ × ℕ → Option ℕ) (o : Option ℕ) (f : ℕ) (b : Branch) (t : IsTable ks rows look)
-    (in_o : (p : ℕ) → o ≡ Some p → p < length rows) (absent : look (link o, f) ≡ None) (at_o : b.parent ≡ o) (at_f : b.func ≡ f) (at_depth : b.depth ≡ length (key_above ks o))
-    (more : (q : ℕ × ℕ) → look' q ≡ cond (is_eq (pair_cmp (link o, f) q)) (Some (length rows)) (look q)) where
+module _ (ks : List (List ℕ)) (rows : List Branch) (look look' : Option ℕ × ℕ → Option ℕ) (o : Option ℕ) (f : ℕ) (b : Branch) (t : IsTable ks rows look)
+    (in_o : (p : ℕ) → o ≡ Some p → p < length rows) (absent : look (o, f) ≡ None) (at_o : b.parent ≡ o) (at_f : b.func ≡ f) (at_depth : b.depth ≡ length (key_above ks o))
+    (more : (q : Option ℕ × ℕ) → look' q ≡ cond (pair_eq (o, f) q) (Some (length rows)) (look q)) where
   abbrev pub fresh : List ℕ
   fresh = key_above ks o ++ f ∷ []
 
@@ -86,7 +89,7 @@ module _ (ks : List (List ℕ)) (rows : List Branch) (look look' : ℕ × ℕ �
   no_key q h e =
       let k = snoc-front (key_above ks (branch rows q).parent) (key_above ks o) (branch rows q).func f (sym (t.keys q h) ∙ e) in
       let m : (branch rows q).parent ≡ o = same_above (branch rows q).parent o (λ p. t.above q p h) in_o k.0 in
-      let found : look (link o, f) ≡ Some q = ap (λ n. look (link n, f)) (sym m) ∙ ap (λ n. look (link (branch rows q).parent, n)) (sym k.1) ∙ t.has q h in
+      let found : look (o, f) ≡ Some q = ap (λ n. look (n, f)) (sym m) ∙ ap (λ n. look ((branch rows q).parent, n)) (sym k.1) ∙ t.has q h in
       let no : None ≡ Some q = sym absent ∙ found in
       cc
 
@@ -120,22 +123,22 @@ module _ (ks : List (List ℕ)) (rows : List Branch) (look look' : ℕ × ℕ �
           (ap (λ (b : Branch). b.depth) (at_last rows b) ∙ at_depth ∙ (let n = length-snoc (key_above ks o) f in omega arith) ∙ ap (λ z. length z - 1) (sym last_key))
     ];
     has = λ r h. elim (place r h) [
-      | inl l ↦ ap (λ (b : Branch). look' (link b.parent, b.func)) (at_left rows b r l) ∙ more (link (branch rows r).parent, (branch rows r).func)
-          ∙ ap (λ e. cond e (Some (length rows)) (look (link (branch rows r).parent, (branch rows r).func))) (other r l) ∙ t.has r l
-      | inr s ↦ subst (λ r. look' (link (branch (rows ++ b ∷ []) r).parent, (branch (rows ++ b ∷ []) r).func) ≡ Some r) (sym s)
-          (ap (λ (b : Branch). look' (link b.parent, b.func)) (at_last rows b) ∙ ap (λ z. look' (link z, b.func)) at_o ∙ ap (λ z. look' (link o, z)) at_f ∙ more (link o, f)
-          ∙ ap (λ e. cond e (Some (length rows)) (look (link o, f))) (ap is_eq (itself (link o, f))))
+      | inl l ↦ ap (λ (b : Branch). look' (b.parent, b.func)) (at_left rows b r l) ∙ more ((branch rows r).parent, (branch rows r).func)
+          ∙ ap (λ e. cond e (Some (length rows)) (look ((branch rows r).parent, (branch rows r).func))) (other r l) ∙ t.has r l
+      | inr s ↦ subst (λ r. look' ((branch (rows ++ b ∷ []) r).parent, (branch (rows ++ b ∷ []) r).func) ≡ Some r) (sym s)
+          (ap (λ (b : Branch). look' (b.parent, b.func)) (at_last rows b) ∙ ap (λ z. look' (z, b.func)) at_o ∙ ap (λ z. look' (o, z)) at_f ∙ more (o, f)
+          ∙ ap (λ e. cond e (Some (length rows)) (look (o, f))) (pair_itself (o, f)))
     ];
-    finds = λ m g r e. elim (is_eq (pair_cmp (link o, f) (link m, g))) as (λ b'. is_eq (pair_cmp (link o, f) (link m, g)) ≡ b' → cond b' (Some (length rows)) (look (link m, g)) ≡ Some r → (r < length (rows ++ b ∷ [])) × ((branch (rows ++ b ∷ []) r).parent ≡ m) × ((branch (rows ++ b ∷ []) r).func ≡ g)) [
+    finds = λ m g r e. elim (pair_eq (o, f) (m, g)) as (λ b'. pair_eq (o, f) (m, g) ≡ b' → cond b' (Some (length rows)) (look (m, g)) ≡ Some r → (r < length (rows ++ b ∷ [])) × ((branch (rows ++ b ∷ []) r).parent ≡ m) × ((branch (rows ++ b ∷ []) r).func ≡ g)) [
       | true ↦ λ k e.
           let s : length rows ≡ r = cc in
-          let pair = same_pair (link o, f) (link m, g) (eq-Equal _ k) in
-          let lo : link o ≡ link m = ap (λ (z : ℕ × ℕ). z.0) pair in
-          let lf : f ≡ g = ap (λ (z : ℕ × ℕ). z.1) pair in
+          let pair = same_pair (o, f) (m, g) k in
+          let lo : o ≡ m = ap (λ (z : Option ℕ × ℕ). z.0) pair in
+          let lf : f ≡ g = ap (λ (z : Option ℕ × ℕ). z.1) pair in
           subst (λ r. (r < length (rows ++ b ∷ [])) × ((branch (rows ++ b ∷ []) r).parent ≡ m) × ((branch (rows ++ b ∷ []) r).func ≡ g)) s
-          (omega (arith, length-snoc rows b), ap (λ (b : Branch). b.parent) (at_last rows b) ∙ at_o ∙ link_same o m lo, ap (λ (b : Branch). b.func) (at_last rows b) ∙ at_f ∙ lf)
+          (omega (arith, length-snoc rows b), ap (λ (b : Branch). b.parent) (at_last rows b) ∙ at_o ∙ lo, ap (λ (b : Branch). b.func) (at_last rows b) ∙ at_f ∙ lf)
       | false ↦ λ k e. (let w = t.finds m g r e in (wider r w.0, ap (λ (b : Branch). b.parent) (at_left rows b r w.0) ∙ w.1, ap (λ (b : Branch). b.func) (at_left rows b r w.0) ∙ w.2))
-    ] refl (sym (more (link m, g)) ∙ e);
+    ] refl (sym (more (m, g)) ∙ e);
   }
     where
       place : (r : ℕ) → r < length (rows ++ b ∷ []) → (r < length rows) ⊎ (r ≡ length rows)
@@ -144,17 +147,8 @@ module _ (ks : List (List ℕ)) (rows : List Branch) (look look' : ℕ × ℕ �
       wider : (p : ℕ) → p < length rows → p < length (rows ++ b ∷ [])
       wider p h = omega (arith, length-snoc rows b)
 
-      itself : (q : ℕ × ℕ) → pair_cmp q q ≡ Equal
-      itself q = ap (λ e. ordering_then e (nat_cmp q.1 q.1)) (tied_itself nat_cmp_total q.0) ∙ tied_itself nat_cmp_total q.1
-
-      link_same : (o m : Option ℕ) → link o ≡ link m → o ≡ m
-      link_same None None h = refl
-      link_same None (Some p) h = absurd (omega arith)
-      link_same (Some p) None h = absurd (omega arith)
-      link_same (Some p) (Some q) h = let e : p ≡ q = omega arith in cc
-
-      other : (r : ℕ) → r < length rows → is_eq (pair_cmp (link o, f) (link (branch rows r).parent, (branch rows r).func)) ≡ false
-      other r l = elim (is_eq (pair_cmp (link o, f) (link (branch rows r).parent, (branch rows r).func))) as (λ e. is_eq (pair_cmp (link o, f) (link (branch rows r).parent, (branch rows r).func)) ≡ e → e ≡ false) [
-        | true ↦ λ k. (let pair = same_pair (link o, f) (link (branch rows r).parent, (branch rows r).func) (eq-Equal _ k) in let no : None ≡ Some r = sym absent ∙ ap look pair ∙ t.has r l in cc)
+      other : (r : ℕ) → r < length rows → pair_eq (o, f) ((branch rows r).parent, (branch rows r).func) ≡ false
+      other r l = elim (pair_eq (o, f) ((branch rows r).parent, (branch rows r).func)) as (λ e. pair_eq (o, f) ((branch rows r).parent, (branch rows r).func) ≡ e → e ≡ false) [
+        | true ↦ λ k. (let pair = same_pair (o, f) ((branch rows r).parent, (branch rows r).func) k in let no : None ≡ Some r = sym absent ∙ ap look pair ∙ t.has r l in cc)
         | false ↦ λ k. refl
       ] refl

@@ -29,7 +29,7 @@ pub small-more : (xs : List Weighed) (x : List Step) (w : ℤ) → EachOf IsSmal
 small-more xs x w h k = EachOf-append IsSmall xs (record { steps = x; weight = w } ∷ []) h (k, tt)
 
 -- nothing has grown from no paths
-pub IsGrown-none : (look : ℕ × ℕ → Option ℕ) → ((q : ℕ × ℕ) → look q ≡ None) → IsGrown [] [] [] look
+pub IsGrown-none : (look : Option ℕ × ℕ → Option ℕ) → ((q : Option ℕ × ℕ) → look q ≡ None) → IsGrown [] [] [] look
 IsGrown-none look none = record {
   table = record {
     len = refl;

@@ -16,7 +16,7 @@ use Rattle.prof_tables.specs.declared.rows.Step.{Step}
 use Rattle.std.proofs.lemmas.Bool.{false≢true}
 use Rattle.std.proofs.lemmas.Bool.Decides.{nat_tests}
 
-pub forest_of : (xs : List Weighed) (ks : List (List ℕ)) (rows : List Branch) (look : ℕ × ℕ → Option ℕ) → IsGrown xs ks rows look → IsForest xs ks rows
+pub forest_of : (xs : List Weighed) (ks : List (List ℕ)) (rows : List Branch) (look : Option ℕ × ℕ → Option ℕ) → IsGrown xs ks rows look → IsForest xs ks rows
 forest_of xs ks rows look g = record {
   keys = g.table.keys;
   above = g.table.above;
@@ -26,7 +26,7 @@ forest_of xs ks rows look g = record {
   whole = g.adds.whole;
 }
 
-node_is : (default : ℕ) (xs : List Weighed) (ks : List (List ℕ)) (rows : List Branch) (look : ℕ × ℕ → Option ℕ) → IsGrown xs ks rows look → (r : ℕ) → r < length rows → node_from default (branch rows r) ≡ node_at default xs (key ks r)
+node_is : (default : ℕ) (xs : List Weighed) (ks : List (List ℕ)) (rows : List Branch) (look : Option ℕ × ℕ → Option ℕ) → IsGrown xs ks rows look → (r : ℕ) → r < length rows → node_from default (branch rows r) ≡ node_at default xs (key ks r)
 node_is default xs ks rows look g r h =
     let k = key ks r in
     let b = branch rows r in
@@ -38,7 +38,7 @@ node_is default xs ks rows look g r h =
     five : {d d' f f' c c' : ℕ} {t t' o o' : ℤ} → d ≡ d' → f ≡ f' → t ≡ t' → o ≡ o' → c ≡ c' → let a : Node = record { depth = d; func = f; total = t; own = o; category = c } in let b : Node = record { depth = d'; func = f'; total = t'; own = o'; category = c' } in a ≡ b
     five p q r s v = λ i. record { depth = p i; func = q i; total = r i; own = s i; category = v i }
 
-pub nodes_are : (default : ℕ) (xs : List Weighed) (ks : List (List ℕ)) (rows : List Branch) (look : ℕ × ℕ → Option ℕ) → IsGrown xs ks rows look → (order : List ℕ) → All (λ row. row < length rows) order → map (key ks) order ≡ keys_of xs
+pub nodes_are : (default : ℕ) (xs : List Weighed) (ks : List (List ℕ)) (rows : List Branch) (look : Option ℕ × ℕ → Option ℕ) → IsGrown xs ks rows look → (order : List ℕ) → All (λ row. row < length rows) order → map (key ks) order ≡ keys_of xs
     → map (λ row. node_from default (branch rows row)) order ≡ nodes_of default xs
 nodes_are default xs ks rows look g order within e = each order within ∙ ap (map (node_at default xs)) e
   where

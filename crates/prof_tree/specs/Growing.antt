@@ -1,34 +1,32 @@
-use Rattle.std.specs.Prelude.{◌≡◌, ◌≢◌, ℕ, ◌-◌, ◌<◌, ℤ, pos, ◌+ℤ◌, ◌≤ℤ◌, neg_ℤ, ◌≤◌, MatchOption, unwrap_or, List, [], ◌∷◌, ◌++◌, length, reverse, Option, Some, None, ◌==◌, if◌then◌else◌}
+use Rattle.std.specs.Prelude.{◌≡◌, ◌≢◌, ℕ, ◌-◌, ◌<◌, ℤ, pos, ◌+ℤ◌, ◌≤ℤ◌, neg_ℤ, ◌≤◌, MatchOption, unwrap_or, Bool, ◌&&◌, nat_eq, List, [], ◌∷◌, ◌++◌, length, reverse, Option, Some, None, ◌==◌, if◌then◌else◌}
 use Rattle.prof_tables.specs.declared.rows.Step.{Step}
 use Rattle.prof_path.specs.Shown.{funcs}
-use Rattle.std.specs.BTreeMap.{BTreeMap, get}
-use Rattle.std.specs.Ordering.{ordering_then, nat_cmp, is_eq}
-use Rattle.std.specs.declared.cmp.Ordering.{Ordering}
+use Rattle.std.specs.Option.{option_eq}
 use Rattle.prof_tree.specs.declared.branch.Branch.{Branch}
 use Rattle.prof_tree.specs.declared.growing.End.{End}
 use Rattle.prof_tree.specs.declared.growing.End.TheVariants.{Root, Leaf}
 use Rattle.prof_tree.specs.declared.node.Node.{Node}
 use Rattle.prof_tree.specs.Nodes.{Weighed, total_at, own_at, common, categories_at}
-use Rattle.prof_tree.specs.Forest.{EachOf, HasPrefix, key, key_above, branch, link}
+use Rattle.prof_tree.specs.Forest.{EachOf, HasPrefix, key, key_above, branch}
 
 -- the steps of a path, from an end on
 abbrev pub steps_from : End → List Step → List Step
 steps_from Root x = x
 steps_from Leaf x = reverse x
 
--- the order of the pairs of a place and a function
-abbrev pub pair_cmp : ℕ × ℕ → ℕ × ℕ → Ordering
-pair_cmp x y = ordering_then (nat_cmp x.0 y.0) (nat_cmp x.1 y.1)
+-- whether two pairs of a parent and a function are the same
+abbrev pub pair_eq : Option ℕ × ℕ → Option ℕ × ℕ → Bool
+pair_eq x y = option_eq nat_eq x.0 y.0 && nat_eq x.1 y.1
 
 -- each row is found by its parent and its function, and by nothing else
-pub record IsTable (ks : List (List ℕ)) (rows : List Branch) (look : ℕ × ℕ → Option ℕ) : Type 0 where
+pub record IsTable (ks : List (List ℕ)) (rows : List Branch) (look : Option ℕ × ℕ → Option ℕ) : Type 0 where
   pub len : length ks ≡ length rows
   pub keys : (r : ℕ) → r < length rows → key ks r ≡ key_above ks (branch rows r).parent ++ (branch rows r).func ∷ []
   pub above : (r p : ℕ) → r < length rows → (branch rows r).parent ≡ Some p → p < length rows
   pub apart : (r s : ℕ) → r < length rows → s < length rows → key ks r ≡ key ks s → r ≡ s
   pub depths : (r : ℕ) → r < length rows → (branch rows r).depth ≡ length (key ks r) - 1
-  pub has : (r : ℕ) → r < length rows → look (link (branch rows r).parent, (branch rows r).func) ≡ Some r
-  pub finds : (o : Option ℕ) (f r : ℕ) → look (link o, f) ≡ Some r → (r < length rows) × ((branch rows r).parent ≡ o) × ((branch rows r).func ≡ f)
+  pub has : (r : ℕ) → r < length rows → look ((branch rows r).parent, (branch rows r).func) ≡ Some r
+  pub finds : (o : Option ℕ) (f r : ℕ) → look (o, f) ≡ Some r → (r < length rows) × ((branch rows r).parent ≡ o) × ((branch rows r).func ≡ f)
 
 -- what the paths that begin with a row's functions add up to
 pub record Adds (ys : List Weighed) (ks : List (List ℕ)) (rows : List Branch) : Type 0 where
@@ -63,35 +61,31 @@ stepped b s w = record b { total = b.total +ℤ w; category = merged b.category 
 abbrev pub ended : Branch → ℤ → Branch
 ended b w = record b { own = b.own +ℤ w }
 
--- the row of each pair of a parent's place and a function
-abbrev pub Index : Type 0
-Index = BTreeMap (ℕ × ℕ) ℕ
-
 -- the row of a step below a row stood, or is added as the last
-abbrev pub IsChild : List Branch → Index → List Branch → Index → Option ℕ → ℕ → Step → ℕ → Type 0
-IsChild rows index rows' index' o depth s r =
-    MatchOption (get pair_cmp index (link o, s.func))
+abbrev pub IsChild : List Branch → (Option ℕ × ℕ → Option ℕ) → List Branch → (Option ℕ × ℕ → Option ℕ) → Option ℕ → ℕ → Step → ℕ → Type 0
+IsChild rows look rows' look' o depth s r =
+    MatchOption (look (o, s.func))
     ((r ≡ length rows) × (rows' ≡ rows ++ record { parent = o; depth = depth; func = s.func; total = pos 0; own = pos 0; category = Some s.category } ∷ [])
-    × ((q : ℕ × ℕ) → get pair_cmp index' q ≡ (if is_eq (pair_cmp (link o, s.func) q) then Some r else get pair_cmp index q)))
-    (λ found. (r ≡ found) × (rows' ≡ rows) × ((q : ℕ × ℕ) → get pair_cmp index' q ≡ get pair_cmp index q))
+    × ((q : Option ℕ × ℕ) → look' q ≡ (if pair_eq (o, s.func) q then Some r else look q)))
+    (λ found. (r ≡ found) × (rows' ≡ rows) × ((q : Option ℕ × ℕ) → look' q ≡ look q))
 
 -- a weight of 64 bits
 abbrev pub IsSmall : Weighed → Type 0
 IsSmall x = (neg_ℤ (pos 9223372036854775808) ≤ℤ x.weight) × (x.weight ≤ℤ pos 9223372036854775808)
 
 -- the rows are the nodes of the paths, with all that is known of them
-pub record IsGrown (xs : List Weighed) (ks : List (List ℕ)) (rows : List Branch) (look : ℕ × ℕ → Option ℕ) : Type 0 where
+pub record IsGrown (xs : List Weighed) (ks : List (List ℕ)) (rows : List Branch) (look : Option ℕ × ℕ → Option ℕ) : Type 0 where
   pub table : IsTable ks rows look
   pub adds : Adds xs ks rows
   pub owns : Owns xs ks rows
 
 -- there are paths of which the rows are the nodes
 abbrev pub AreGrown : List Branch → Type 0
-AreGrown rows = (xs : List Weighed) × (ks : List (List ℕ)) × (look : (ℕ × ℕ → Option ℕ)) × IsGrown xs ks rows look
+AreGrown rows = (xs : List Weighed) × (ks : List (List ℕ)) × (look : (Option ℕ × ℕ → Option ℕ)) × IsGrown xs ks rows look
 
 -- of at most n paths with weights of 64 bits
-abbrev pub HasGrown : ℕ → List Branch → Index → Type 0
-HasGrown n rows index = (xs : List Weighed) × (ks : List (List ℕ)) × IsGrown xs ks rows (get pair_cmp index) × (length xs ≤ n) × EachOf IsSmall xs
+abbrev pub HasGrown : ℕ → List Branch → (Option ℕ × ℕ → Option ℕ) → Type 0
+HasGrown n rows look = (xs : List Weighed) × (ks : List (List ℕ)) × IsGrown xs ks rows look × (length xs ≤ n) × EachOf IsSmall xs
 
 -- the node of a row
 abbrev pub node_from : ℕ → Branch → Node

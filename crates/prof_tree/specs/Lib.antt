@@ -9,3 +9,4 @@ pub mod Growing
 pub mod Building
 pub mod Weighing
 pub mod Sprouting
+pub mod Climbing

@@ -1,5 +1,5 @@
 -- Rows as a view shows them
-use Rattle.std.specs.Prelude.{◌≡◌, ℕ, ◌+◌, ◌<◌, ◌≤◌, ℤ, Bool, false, List, [], ◌∷◌, ◌++◌, length, Option, Some, slice_index_or, if◌then◌else◌}
+use Rattle.std.specs.Prelude.{◌≡◌, ℕ, ◌+◌, ◌<◌, ◌≤◌, Bool, false, List, [], ◌∷◌, ◌++◌, length, Option, Some, slice_index_or, if◌then◌else◌}
 use Rattle.std.specs.List.{All, list_any}
 use Rattle.prof_tables.specs.declared.rows.StackRow.{StackRow}
 use Rattle.prof_tables.specs.declared.rows.SampleRow.{SampleRow}

@@ -22,7 +22,7 @@ pub record IsStack (stacks : List StackRow) (own : List (Option ℤ)) (n : ℕ) 
 
 -- the rows are the nodes of the paths as far as the first n stack rows make them, each of which has its node where a
 -- sample goes through it
-pub record AreSprouted (stacks : List StackRow) (own : List (Option ℤ)) (n : ℕ) (ks : List (List ℕ)) (rows : List Branch) (look : ℕ × ℕ → Option ℕ) (nodes : List (Option ℕ)) : Type 0 where
+pub record AreSprouted (stacks : List StackRow) (own : List (Option ℤ)) (n : ℕ) (ks : List (List ℕ)) (rows : List Branch) (look : Option ℕ × ℕ → Option ℕ) (nodes : List (Option ℕ)) : Type 0 where
   pub table : IsTable ks rows look
   pub adds : Adds (held (path_upto stacks n) 0 own) ks rows
   pub owns : Owns [] ks rows

@@ -4,7 +4,7 @@
 /// stands before those of its children. A category of None says that the node's steps have several.
 #[derive(Clone, Copy, Debug)]
 pub struct Branch {
-    pub parent: Option<usize>,
+    pub parent: Option<u32>,
     pub depth: u32,
     pub func: u32,
     pub total: i128,

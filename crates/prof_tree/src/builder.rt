@@ -5,18 +5,18 @@ ghost use Rattle.prof_tree.specs.Nodes.{Weighed, nodes_of, node_at, AreKeys, tot
 
 use crate::branch::Branch;
 use crate::finishing::finish;
-use crate::growing::{End, plus, walk};
+use crate::growing::{End, Index, plus, walk};
 use crate::node::Tree;
 use prof_io::NoMemory;
 use prof_path::Step;
 use std::alloc::Global;
-use std::collections::BTreeMap;
+use std::collections::HashMap;
 
 /// The call tree of the paths that were added so far. It keeps the nodes and none of the paths.
 #[derive(Drop)]
 pub struct TreeBuilder {
     rows: Vec<Branch>,
-    index: BTreeMap<(usize, u32), usize>,
+    index: Index,
     selected: i128,
     dropped: i128,
 }
@@ -27,7 +27,7 @@ impl TreeBuilder {
     {
         TreeBuilder {
             rows: Vec::new(alloc),
-            index: BTreeMap::new(alloc),
+            index: HashMap::new(alloc),
             selected: 0,
             dropped: 0,
         }

@@ -37,7 +37,7 @@ fn nodes_at(
 /// The list of nodes of a tree whose rows are there. `default` is the category of a node whose steps have several.
 pub fn finish(alloc: Global, rows: &[Branch], default: u32) -> Result<Vec<Node>, NoMemory>
     requires { AreGrown rows.now }
-    ensures nodes { IfOk result (λ nodes. (xs : List Weighed) (ks : List (List ℕ)) (look : ℕ × ℕ → Option ℕ)
+    ensures nodes { IfOk result (λ nodes. (xs : List Weighed) (ks : List (List ℕ)) (look : Option ℕ × ℕ → Option ℕ)
         → IsGrown xs ks rows.now look → nodes.items ≡ nodes_of default xs) }
     ensures count { IfOk result (λ nodes. length nodes.items ≤ length rows.now) }
 {

@@ -1,21 +1,23 @@
 //! From paths to the rows of their tree.
 ghost use Rattle.std.specs.Prelude.{◌≡◌, ◌+◌, ◌*◌, ◌^◌, ◌<◌, ◌≤◌, ℕ, ◌++◌, ◌∷◌, [], List, length, IfOk, slice_set, slice_index_or, FitsSigned, ◌+ℤ◌, All, Option, map, reverse};
 ghost use Rattle.std.specs.Int.{w128};
-ghost use Rattle.prof_tree.specs.Forest.{branch, link};
-ghost use Rattle.prof_tree.specs.Growing.{IsChild, steps_from, stepped, ended, HasGrown, IsGrown, pair_cmp};
+ghost use Rattle.prof_tree.specs.Forest.{branch};
+ghost use Rattle.prof_tree.specs.Growing.{IsChild, steps_from, stepped, ended, HasGrown, IsGrown, pair_eq};
 ghost use Rattle.prof_tree.specs.Nodes.{Weighed, weighed, total, dropped_of, reversed, keys_of, node_limit};
 ghost use Rattle.prof_tables.specs.declared.rows.Step.{Step};
-ghost use Rattle.std.specs.BTreeMap.{get};
+ghost use Rattle.std.specs.HashMap.{get};
 
 use crate::branch::Branch;
-use crate::listing::place_of;
 use crate::node::InvertRefusal;
 use prof_path::{Step, StepList};
 use std::alloc::{AllocError, Global};
-use std::collections::BTreeMap;
+use std::collections::HashMap;
 
 // How many nodes an inverted tree may have.
-const NODE_LIMIT: u64 = 4_194_304;
+pub const NODE_LIMIT: u64 = 4_194_304;
+
+/// The row of each child, by its parent's row and its function.
+pub type Index = HashMap<(Option<u32>, u32), u32>;
 
 /// The end of a path that a walk begins at.
 #[derive(Clone, Copy, Debug, PartialEq, Eq)]
@@ -38,19 +40,22 @@ fn step_from(path: &[Step], from: End, distance: usize) -> Step
 /// The row of a step below a row, which is added where it isn't there.
 pub fn child(
     rows: &mut Vec<Branch>,
-    index: &mut BTreeMap<(usize, u32), usize>,
-    parent: Option<usize>,
+    index: &mut Index,
+    parent: Option<u32>,
     depth: u32,
     step: Step,
-) -> Result<usize, AllocError>
-    requires { link parent < 2 ^ 64 }
-    ensures { IfOk result (λ row. IsChild rows.old.items index.old rows.new.items index.new parent depth step row) }
+) -> Result<u32, AllocError>
+    ensures { IfOk result (λ row. IsChild rows.old.items (get pair_eq index.old) rows.new.items (get pair_eq index.new) parent depth step row) }
 {
-    let key = (place_of(parent), step.func);
+    let key = (parent, step.func);
     if let Some(row) = index.get(&key) {
         return Ok(*row);
     }
-    let row = rows.len();
+    // The rows of 2^32 nodes would take more than 400 GB.
+    if rows.len() > u32::MAX as usize {
+        return Err(AllocError);
+    }
+    let row = rows.len() as u32;
     index.insert(key, row)?;
     rows.push(Branch {
         parent,
@@ -64,12 +69,12 @@ pub fn child(
 }
 
 /// Adds a weight and the category of a step to a row.
-pub fn add_total(rows: &mut Vec<Branch>, row: usize, step: Step, weight: i128)
+pub fn add_total(rows: &mut Vec<Branch>, row: u32, step: Step, weight: i128)
     requires row { row < length rows.old.items }
     requires fits { FitsSigned w128 ((branch rows.old.items row).total +ℤ weight) }
     ensures { rows.new.items ≡ slice_set rows.old.items row (stepped (branch rows.old.items row) step weight) }
 {
-    let branch = &mut rows[row];
+    let branch = &mut rows[row as usize];
     branch.total += weight;
     if branch.category != Some(step.category) {
         branch.category = None;
@@ -77,17 +82,17 @@ pub fn add_total(rows: &mut Vec<Branch>, row: usize, step: Step, weight: i128)
 }
 
 /// Adds a weight to the self weight of a row.
-pub fn add_own(rows: &mut Vec<Branch>, row: usize, weight: i128)
+pub fn add_own(rows: &mut Vec<Branch>, row: u32, weight: i128)
     requires row { row < length rows.old.items }
     requires fits { FitsSigned w128 ((branch rows.old.items row).own +ℤ weight) }
     ensures { rows.new.items ≡ slice_set rows.old.items row (ended (branch rows.old.items row) weight) }
 {
-    let branch = &mut rows[row];
+    let branch = &mut rows[row as usize];
     branch.own += weight;
 }
 
 // Adds a path's weight and its step's category to a row.
-fn add_step(rows: &mut Vec<Branch>, row: usize, step: Step, weight: i64)
+fn add_step(rows: &mut Vec<Branch>, row: u32, step: Step, weight: i64)
     requires row { row < length rows.old.items }
     requires fits { FitsSigned w128 ((branch rows.old.items row).total +ℤ weight) }
     ensures { rows.new.items ≡ slice_set rows.old.items row (stepped (branch rows.old.items row) step weight) }
@@ -96,7 +101,7 @@ fn add_step(rows: &mut Vec<Branch>, row: usize, step: Step, weight: i64)
 }
 
 // Adds a path's weight to the row that it ends at.
-fn add_end(rows: &mut Vec<Branch>, row: usize, weight: i64)
+fn add_end(rows: &mut Vec<Branch>, row: u32, weight: i64)
     requires row { row < length rows.old.items }
     requires fits { FitsSigned w128 ((branch rows.old.items row).own +ℤ weight) }
     ensures { rows.new.items ≡ slice_set rows.old.items row (ended (branch rows.old.items row) weight) }
@@ -107,15 +112,15 @@ fn add_end(rows: &mut Vec<Branch>, row: usize, weight: i64)
 /// Walks one path into the rows, from an end on.
 pub fn walk(
     rows: &mut Vec<Branch>,
-    index: &mut BTreeMap<(usize, u32), usize>,
+    index: &mut Index,
     path: &[Step],
     from: End,
     weight: i64,
 ) -> Result<(), AllocError>
-    requires grown { HasGrown 8388607 rows.old.items index.old }
+    requires grown { HasGrown 8388607 rows.old.items (get pair_eq index.old) }
     requires short { length path.now < 2 ^ 32 }
-    ensures { IfOk result (λ _. (xs : List Weighed) (ks : List (List ℕ)) → IsGrown xs ks rows.old.items (get pair_cmp index.old)
-        → (ks' : List (List ℕ)) × IsGrown (xs ++ record { steps = steps_from from path.now; weight = weight } ∷ []) ks' rows.new.items (get pair_cmp index.new)) }
+    ensures { IfOk result (λ _. (xs : List Weighed) (ks : List (List ℕ)) → IsGrown xs ks rows.old.items (get pair_eq index.old)
+        → (ks' : List (List ℕ)) × IsGrown (xs ++ record { steps = steps_from from path.now; weight = weight } ∷ []) ks' rows.new.items (get pair_eq index.new)) }
 {
     let mut at = None;
     for depth in 0..path.len() {
@@ -138,14 +143,14 @@ pub fn grown_backward(
 ) -> Result<Vec<Branch>, InvertRefusal>
     requires lengths { length weights.now ≡ length paths.now }
     requires few { length paths.now ≤ 8388608 }
-    ensures grown { IfOk result (λ rows. (ks : List (List ℕ)) × (look : (ℕ × ℕ → Option ℕ))
+    ensures grown { IfOk result (λ rows. (ks : List (List ℕ)) × (look : (Option ℕ × ℕ → Option ℕ))
         × IsGrown (map reversed (weighed paths.now weights.now)) ks rows.items look) }
     ensures within { IfOk result (λ rows. length rows.items ≤ node_limit) }
     ensures many { (limit : ℕ) → result ≡ Err (InvertRefusal.TooManyNodes limit)
         → (limit ≡ node_limit) × (node_limit < length (keys_of (map reversed (weighed paths.now weights.now)))) }
 {
     let mut rows = Vec::new(alloc);
-    let mut index = BTreeMap::new(alloc);
+    let mut index = HashMap::new(alloc);
     for (place, path) in paths.iter().enumerate() {
         let steps = path.as_slice();
         // A path alone makes a node of each of its steps.

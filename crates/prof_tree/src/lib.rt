@@ -4,9 +4,11 @@
 
 mod branch;
 mod builder;
+mod climbing;
 mod finding;
 mod finishing;
 mod growing;
+mod inverted_tree;
 mod listing;
 mod node;
 mod own;
@@ -17,6 +19,7 @@ mod tree;
 mod viewing;
 mod weighing;
 
+pub use inverted_tree::inverted;
 pub use node::{InvertRefusal, Node, Tree};
 pub use own::own_tree;
 pub use plain_tree::plain;

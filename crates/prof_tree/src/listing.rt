@@ -33,13 +33,12 @@ pub fn ranked(alloc: Global, rows: &[Branch]) -> Result<Vec<Rank>, AllocError>
 }
 
 /// The place of a node's first child in a list of all: the first root stands first.
-pub fn place_of(parent: Option<usize>) -> usize
-    requires { link parent < 2 ^ 64 }
+fn place_of(parent: Option<u32>) -> usize
     ensures { result ≡ link parent }
 {
     match parent {
         None => 0,
-        Some(row) => row + 1,
+        Some(row) => row as usize + 1,
     }
 }
 

@@ -1,7 +1,7 @@
 use Rattle.std.proofs.Common.{◌++◌, ap, codes}
 use Rattle.prof_desk.specs.Lines.{node_head}
 use Rattle.prof_writer.specs.Writing.{quoted}
-use Rattle.prof_desk.proofs.Pages.{gathers_not, gathers_written}
+use Rattle.prof_page.proofs.Pages.{gathers_not, gathers_written}
 use Rattle.prof_writer.proofs.Outputs.{writes_as}
 use Rattle.prof_desk.proofs.reply.add_node.Goals as goal
 

@@ -2,7 +2,7 @@ use Rattle.std.proofs.Common.{◌≤◌, length, sym, ap, arith}
 use Rattle.std.specs.List.{flat_map}
 use Rattle.std.proofs.lemmas.List.{take_all}
 use Rattle.prof_desk.specs.Replies.{node_line}
-use Rattle.prof_desk.proofs.Pages.{gathers_on, gathers_ok, gathers_same, gathers_end, gathers_failed}
+use Rattle.prof_page.proofs.Pages.{gathers_on, gathers_ok, gathers_same, gathers_end, gathers_failed}
 use Rattle.prof_desk.proofs.Pieces.{flat_more, flat_rest}
 use Rattle.prof_writer.proofs.Outputs.{writes_as}
 use Rattle.prof_desk.proofs.reply.write_nodes.Goals as goal

@@ -3,7 +3,7 @@ use Rattle.std.proofs.Common.{take, [], Ok}
 use Rattle.std.specs.List.{flat_map}
 use Rattle.prof_io.specs.Outside.{seen}
 use Rattle.prof_desk.specs.Replies.{node_line}
-use Rattle.prof_desk.specs.Writing.{Gathers}
+use Rattle.prof_page.specs.Gathering.{Gathers}
 use Rattle.prof_desk.proofs.reply.write_nodes.Given as goal
 
 abbrev pub invariant-loop-node : goal.invariant-loop-node

@@ -6,8 +6,8 @@ use Rattle.prof_raw.specs.declared.strings.Strings.{Strings}
 use Rattle.std.specs.Prelude.{codes}
 use Rattle.std.specs.Option.{option_map}
 use Rattle.prof_grammar.specs.Value.{field, last_named}
-use Rattle.prof_layout.specs.Profile.{base_broken, common_broken, common_of, common_member, shared_tables}
-use Rattle.prof_read.specs.Gathered.{AreShared}
+use Rattle.prof_layout.specs.Profile.{base_broken, common_broken, common_of}
+use Rattle.prof_members.specs.Gathered.{AreShared}
 use Rattle.prof_read.specs.Bases.{IsBaseOf}
 use Rattle.prof_read.proofs.Refusing.{names-on, names-unbuilt}
 use Rattle.prof_read.proofs.Standing.{object_found, none_found, none_shared, shared_at, common_at, base_by_strings, base_by_tables, tables_by}

@@ -1,4 +1,4 @@
-use Rattle.std.proofs.Common.{None, sym, ◌∙◌}
+use Rattle.std.proofs.Common.{sym, ◌∙◌}
 use Rattle.prof_grammar.specs.Value.{Value}
 use Rattle.prof_tables.specs.Threads.{ThreadTables}
 use Rattle.prof_layout.specs.Profile.{common_of, common_member}

@@ -1,4 +1,4 @@
-use Rattle.std.proofs.Common.{◌≡◌, None, sym, ◌∙◌, ap}
+use Rattle.std.proofs.Common.{None, sym, ◌∙◌, ap}
 use Rattle.prof_raw.specs.Checks.{named}
 use Rattle.prof_raw.specs.declared.rule.Table.TheVariants as table
 use Rattle.prof_raw.specs.declared.rule.Column.TheVariants as column

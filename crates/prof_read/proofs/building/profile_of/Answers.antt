@@ -1,15 +1,12 @@
-use Rattle.std.proofs.Common.{◌≡◌, ℕ, ◌≤◌, None, Some, true, false, length, map, sym, subst, ◌∙◌, ap, arith}
+use Rattle.std.proofs.Common.{◌≡◌, ℕ, None, Some, true, length, map, sym, subst, ◌∙◌, ap, arith}
 use Rattle.std.specs.List.{All}
 use Rattle.std.proofs.lemmas.List.{length-map}
 use Rattle.std.specs.declared.rc.Rc.{Rc}
 use Rattle.std.specs.declared.alloc.Global.{Global}
 use Rattle.prof_tables.specs.declared.thread.Thread.{Thread}
-use Rattle.prof_raw.specs.declared.rule.Table.TheVariants as table
-use Rattle.prof_raw.specs.declared.rule.Column.TheVariants as column
-use Rattle.prof_raw.specs.Checks.{named}
 use Rattle.prof_tables.specs.Profiles.{CountsIn}
 use Rattle.prof_layout.specs.Lists.{items_of}
-use Rattle.prof_layout.specs.Profile.{is_processed, broken, categories_broken, base_broken, threads_broken, threads_member, first_thread, thread_fails, category_names, default_category}
+use Rattle.prof_layout.specs.Profile.{is_processed, broken, categories_broken, base_broken, threads_member, first_thread, thread_fails, category_names, default_category}
 use Rattle.prof_layout.proofs.Checking.{broken-categories, broken-base, broken-threads, broken-thread}
 use Rattle.prof_read.specs.Bases.{AreCounts, StandsOn}
 use Rattle.prof_read.proofs.Refusing.{names, names-on}

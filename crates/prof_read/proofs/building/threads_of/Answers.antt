@@ -1,4 +1,4 @@
-use Rattle.std.proofs.Common.{◌≡◌, ◌+◌, suc, [], ◌∷◌, ◌++◌, length, map, refl, sym, subst, ◌∙◌, ap, arith}
+use Rattle.std.proofs.Common.{◌≡◌, suc, [], ◌∷◌, ◌++◌, length, map, sym, subst, ◌∙◌, ap, arith}
 use Rattle.std.proofs.lemmas.Iterator.Adapters.{YieldsList-from_vec}
 use Rattle.std.proofs.lemmas.Iterator.Consumers.{YieldsList-turn, YieldsList-end}
 use Rattle.std.proofs.lemmas.List.{length_push, map-append}
@@ -10,7 +10,7 @@ use Rattle.prof_tables.specs.Profiles.{CountsIn}
 use Rattle.prof_tables.specs.Threads.{ThreadTables}
 use Rattle.prof_layout.specs.Profile.{thread_fails, thread_tables, first_thread}
 use Rattle.prof_read.proofs.Built.{all_more}
-use Rattle.prof_read.proofs.Listing.{AreBuilt, row_at, built_none, built_more, built_fails, built_all}
+use Rattle.prof_read.proofs.Listing.{row_at, built_none, built_more, built_fails, built_all}
 use Rattle.prof_read.proofs.Refusing.{no_memory, names-on}
 use Rattle.prof_read.proofs.building.threads_of.Goals as goal
 

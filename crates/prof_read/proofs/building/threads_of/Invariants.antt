@@ -4,7 +4,7 @@ use Rattle.prof_grammar.specs.Value.{Value}
 use Rattle.prof_layout.specs.Lists.{is_object, first_unfit}
 use Rattle.prof_tables.specs.Profiles.{CountsIn}
 use Rattle.prof_read.specs.Bases.{StandsOn}
-use Rattle.prof_read.specs.Gathered.{AreThreads}
+use Rattle.prof_members.specs.Gathered.{AreThreads}
 use Rattle.prof_read.proofs.Listing.{AreBuilt}
 use Rattle.prof_read.proofs.building.threads_of.Given as goal
 

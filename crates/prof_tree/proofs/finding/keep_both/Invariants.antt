@@ -1,4 +1,4 @@
-use Rattle.std.proofs.Common.{◌≡◌, ◌<◌, ◌≤◌, ℕ, length}
+use Rattle.std.proofs.Common.{◌≡◌, ◌<◌, ◌≤◌, ℕ}
 use Rattle.std.specs.Prelude.{◌&&◌}
 use Rattle.prof_tree.specs.Showing.{flag_at}
 use Rattle.prof_tree.proofs.finding.keep_both.Given as goal

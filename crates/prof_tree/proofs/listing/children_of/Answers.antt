@@ -18,13 +18,6 @@ offset_bounds-rows-rank c = let h = rank_in c.args.rows.now c.args.ranks.now c.l
 pub bounds-rows-rank : goal.bounds-rows-rank
 bounds-rows-rank c = rank_in c.args.rows.now c.args.ranks.now c.loop-rank.rank-index _ c.requires.ranks c.loop-rank-test.true
 
-pub place_of-place-requires : goal.place_of-place-requires
-place_of-place-requires c =
-    let r = (get_or c.args.ranks.now c.loop-rank.rank-index (record { size = 0; func = record { 0 = 0 }; row = 0 })).row in
-    let h : r < length c.args.rows.now = rank_in c.args.rows.now c.args.ranks.now c.loop-rank.rank-index _ c.requires.ranks c.loop-rank-test.true in
-    let k : link (branch c.args.rows.now r).parent < length c.args.rows.now + 1 = link_in c.args.rows.now r c.requires.forest h in
-    omega (arith, k, c.requires.few)
-
 pub index-requires : goal.index-requires
 index-requires c =
     let r = (get_or c.args.ranks.now c.loop-rank.rank-index (record { size = 0; func = record { 0 = 0 }; row = 0 })).row in

@@ -1,9 +1,7 @@
-use Rattle.std.proofs.Common.{◌≡◌, length, sym, ap, ◌∙◌, subst, arith}
+use Rattle.std.proofs.Common.{length, sym, ap, ◌∙◌, subst, arith}
 use Rattle.prof_tables.specs.Paths.{PrefixesBelow}
-use Rattle.prof_tree.specs.Nodes.{nodes_of, keys_of}
 use Rattle.prof_tree.specs.Sprouting.{AreWeighed}
 use Rattle.prof_tree.specs.Weighing.{Weighs, own_paths}
-use Rattle.prof_tree.proofs.Law.{keys_of-law}
 use Rattle.prof_tree.proofs.own.own_tree.Goals as goal
 
 pub tree_of_rows-requires-clause-weighed : goal.tree_of_rows-requires-clause-weighed

@@ -1,8 +1,8 @@
 use Rattle.std.proofs.Common.{rules, ◌≡◌, ◌+◌, ◌<◌, ℕ, ℤ, List, [], length, get_or, Option, None, sym, subst, arith}
-use Rattle.std.specs.BTreeMap.{get}
+use Rattle.std.specs.HashMap.{get}
 use Rattle.std.proofs.lemmas.Option.{slice_get-get_or}
 use Rattle.prof_tables.specs.declared.rows.StackRow.{StackRow}
-use Rattle.prof_tree.specs.Growing.{pair_cmp}
+use Rattle.prof_tree.specs.Growing.{pair_eq}
 use Rattle.prof_tree.specs.Sprouting.{AreSprouted, IsStack}
 use Rattle.prof_tree.specs.Weighing.{AreThrough, no_row}
 use Rattle.prof_tree.proofs.RowByRow.{sprouted_first}
@@ -11,9 +11,9 @@ use Rattle.prof_tree.proofs.sprouting.sprout_all.Goals as goal
 pub loop-place-init : goal.loop-place-init
 loop-place-init c = λ own weighed is. (
   [],
-  subst (λ l. AreSprouted c.args.stacks.now own 0 [] l (get pair_cmp c.new-index.result) c.in_ok-nodes.nodes.items) (sym c.new-rows.ensures.items)
-      (subst (λ l. AreSprouted c.args.stacks.now own 0 [] [] (get pair_cmp c.new-index.result) l) (sym c.in_ok-nodes.ensures.items)
-      (sprouted_first c.args.stacks.now weighed.below own (get pair_cmp c.new-index.result) (λ q. search (rules, c.new-index.ensures.empty)))),
+  subst (λ l. AreSprouted c.args.stacks.now own 0 [] l (get pair_eq c.new-index.result) c.in_ok-nodes.nodes.items) (sym c.new-rows.ensures.items)
+      (subst (λ l. AreSprouted c.args.stacks.now own 0 [] [] (get pair_eq c.new-index.result) l) (sym c.in_ok-nodes.ensures.items)
+      (sprouted_first c.args.stacks.now weighed.below own (get pair_eq c.new-index.result) (λ q. search (rules, c.new-index.ensures.empty)))),
 )
 
 -- the next stack row
@@ -37,7 +37,7 @@ sprout-requires c =
       k.0,
       r.1,
       is_next c.args.stacks.now r.0 c.args.through.now (length c.loop-place.nodes.items) c.loop-place.place k.1.len c.loop-place-test.true r.2,
-      subst (λ n. AreSprouted c.args.stacks.now r.0 n k.0 c.loop-place.rows.items (get pair_cmp c.loop-place.index) c.loop-place.nodes.items) (sym k.1.len) k.1,
+      subst (λ n. AreSprouted c.args.stacks.now r.0 n k.0 c.loop-place.rows.items (get pair_eq c.loop-place.index) c.loop-place.nodes.items) (sym k.1.len) k.1,
     )
 
 pub loop-place-preserved : goal.loop-place-preserved
@@ -46,7 +46,7 @@ loop-place-preserved c = λ own weighed is.
     let stacks = c.args.stacks.now in
     let more = c.in_ok-sprout.ensures stacks own k.0 weighed
     (is_next stacks own c.args.through.now (length c.loop-place.nodes.items) c.loop-place.place k.1.len c.loop-place-test.true is)
-    (subst (λ n. AreSprouted stacks own n k.0 c.loop-place.rows.items (get pair_cmp c.loop-place.index) c.loop-place.nodes.items) (sym k.1.len) k.1) in (
+    (subst (λ n. AreSprouted stacks own n k.0 c.loop-place.rows.items (get pair_eq c.loop-place.index) c.loop-place.nodes.items) (sym k.1.len) k.1) in (
       more.0,
-      subst (λ n. AreSprouted stacks own (n + 1) more.0 c.sprout.new.rows.items (get pair_cmp c.sprout.new.index) c.sprout.new.nodes.items) k.1.len more.1,
+      subst (λ n. AreSprouted stacks own (n + 1) more.0 c.sprout.new.rows.items (get pair_eq c.sprout.new.index) c.sprout.new.nodes.items) k.1.len more.1,
     )

@@ -1,4 +1,4 @@
-use Rattle.std.proofs.Common.{◌≡◌, ◌+◌, ◌<◌, ◌≤◌, ◌++◌, ◌∷◌, [], List, true, false, length, Some, to_z, of_z, w64, refl, sym, ap, ◌∙◌, subst, arith}
+use Rattle.std.proofs.Common.{◌≡◌, ◌+◌, ◌<◌, ◌++◌, ◌∷◌, [], length, Some, to_z, of_z, w64, refl, sym, ap, ◌∙◌, subst, arith}
 use Rattle.std.specs.Prelude.{slice_get}
 use Rattle.std.specs.List.{list_all}
 use Rattle.std.specs.Option.{IfSome}
@@ -8,9 +8,8 @@ use Rattle.prof_tables.specs.Threads.{ThreadTables}
 use Rattle.prof_path.specs.Terms.{terms_of}
 use Rattle.prof_path.specs.Views.{ViewLists}
 use Rattle.prof_layer.proofs.RowLaws.{entry-below}
-use Rattle.prof_tree.specs.Nodes.{Weighed}
 use Rattle.prof_tree.specs.Showing.{final_of}
-use Rattle.prof_tree.specs.Views.{is_within, finals}
+use Rattle.prof_tree.specs.Views.{is_within}
 use Rattle.prof_tree.specs.Weighing.{Weighs}
 use Rattle.prof_tree.proofs.FinalRows.{finals_upto, final_at, is_in, final_selected, final_outside, finals_all, finals_few, final_same}
 use Rattle.prof_tree.proofs.Sampled.{same64}

@@ -1,21 +1,21 @@
 use Rattle.std.proofs.Common.{◌≡◌, ◌+ℤ◌, to_z, of_z, sym, ap, ◌∙◌, subst, arith}
 use Rattle.std.specs.Int.{w128}
 use Rattle.std.proofs.lemmas.Int.{ints, to_z-of_z}
-use Rattle.std.specs.BTreeMap.{get}
+use Rattle.std.specs.HashMap.{get}
 use Rattle.prof_tree.specs.Nodes.{nodes_of, keys_of, root_total, own_total}
 use Rattle.prof_tree.proofs.Law.{keys_of-law}
 use Rattle.prof_tree.proofs.Balance.{root_balance, own_balance}
-use Rattle.prof_tree.specs.Growing.{IsGrown, AreGrown, pair_cmp}
+use Rattle.prof_tree.specs.Growing.{IsGrown, AreGrown, pair_eq}
 use Rattle.prof_tree.proofs.builder.TreeBuilder.finish.Goals as goal
 
 pub finish-requires : goal.finish-requires
 finish-requires c =
     let h = c.requires in
-    subst AreGrown (sym c.deref.ensures.value) (h.0, h.1.keys, get pair_cmp c.args.self.index, h.1.grown)
+    subst AreGrown (sym c.deref.ensures.value) (h.0, h.1.keys, get pair_eq c.args.self.index, h.1.grown)
 
 listed_nodes : goal.returns-clause-nodes
 listed_nodes c = λ xs h.
-    c.in_ok-nodes.ensures.nodes xs h.keys (get pair_cmp c.args.self.index) (subst (λ rows. IsGrown xs h.keys rows (get pair_cmp c.args.self.index)) (sym c.deref.ensures.value) h.grown)
+    c.in_ok-nodes.ensures.nodes xs h.keys (get pair_eq c.args.self.index) (subst (λ rows. IsGrown xs h.keys rows (get pair_eq c.args.self.index)) (sym c.deref.ensures.value) h.grown)
 
 pub returns-clause-nodes : goal.returns-clause-nodes
 returns-clause-nodes c = listed_nodes c

@@ -1,0 +1,9 @@
+pub mod Begun
+pub mod FieldTexts
+pub mod MoreItems
+pub mod OtherNames
+pub mod SampleMembers
+pub mod SharedSlots
+pub mod Slots
+pub mod TableSlots
+pub mod WholeLists

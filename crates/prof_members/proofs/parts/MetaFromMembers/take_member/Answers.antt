@@ -1,0 +1,26 @@
+use Rattle.std.proofs.Common.{refl, ap, ◌∙◌, inl, inr}
+use Rattle.std.specs.Prelude.{codes}
+use Rattle.prof_members.specs.declared.parts.MetaMember.TheVariants as member
+use Rattle.prof_members.specs.Named.{meta_name}
+use Rattle.prof_members.proofs.Slots.{takes}
+use Rattle.prof_members.proofs.TableSlots.{meta_more}
+use Rattle.prof_members.proofs.parts.MetaFromMembers.take_member.Goals as goal
+
+pub returns-in_ok-skip_member-in-Some-ProcessedVersion-clause-member : goal.returns-in_ok-skip_member-in-Some-ProcessedVersion-clause-member
+returns-in_ok-skip_member-in-Some-ProcessedVersion-clause-member g c =
+    let read = c.in_ok-skip_member-in-Some-ProcessedVersion.ensures.value in
+    takes _ _ _ _ _ c.name.result.now (codes "preprocessedProfileVersion") c.name.ensures (c.in-Some-ProcessedVersion.ensures.some ∙ ap meta_name c.in-Some-ProcessedVersion.field-0-is) read.0 read.1
+    (meta_more (codes "preprocessedProfileVersion") read.0 _ _ (inl (refl, refl)) (inr (refl, refl)))
+
+pub returns-in_ok-self-in-Some-Categories-clause-member : goal.returns-in_ok-self-in-Some-Categories-clause-member
+returns-in_ok-self-in-Some-Categories-clause-member g c =
+    let read = c.in_ok-self-in-Some-Categories.ensures.list in
+    takes _ _ _ _ _ c.name.result.now (codes "categories") c.name.ensures (c.in-Some-Categories.ensures.some ∙ ap meta_name c.in-Some-Categories.field-0-is) read.0 read.1
+    (meta_more (codes "categories") read.0 _ _ (inr (refl, refl)) (inl (refl, read.2)))
+
+pub returns-in_ok-skip_member-in-None-clause-member : goal.returns-in_ok-skip_member-in-None-clause-member
+returns-in_ok-skip_member-in-None-clause-member g c =
+    let read = c.in_ok-skip_member-in-None.ensures.value in
+    let other = c.in-None.ensures.none in
+    takes _ _ _ _ _ c.name.result.now c.name.result.now c.name.ensures refl read.0 read.1
+    (meta_more c.name.result.now read.0 _ _ (inr (other member.ProcessedVersion, refl)) (inr (other member.Categories, refl)))

@@ -1,0 +1,7 @@
+pub mod Ranges
+pub mod Gathered
+pub mod Columns
+pub mod Names
+pub mod Fields
+pub mod SampleNames
+pub mod Named

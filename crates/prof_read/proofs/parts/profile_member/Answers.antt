@@ -1,9 +1,0 @@
-use Rattle.std.specs.Prelude.{codes}
-use Rattle.prof_read.specs.declared.parts.ProfileMember.TheVariants as member
-use Rattle.prof_read.proofs.Slots.{differs}
-use Rattle.prof_read.proofs.parts.profile_member.Goals as goal
-
-pub returns-in_default-clause-none : goal.returns-in_default-clause-none
-returns-in_default-clause-none c member.Meta = differs c.args.name.now (codes "meta") c.in_default.not-meta
-returns-in_default-clause-none c member.Shared = differs c.args.name.now (codes "shared") c.in_default.not-shared
-returns-in_default-clause-none c member.Threads = differs c.args.name.now (codes "threads") c.in_default.not-threads
