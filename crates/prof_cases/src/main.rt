@@ -10,6 +10,7 @@ mod difference;
 mod marks;
 mod play;
 mod reading;
+mod scripts;
 
 use anyhow::{Context, Result};
 use play::first_difference;

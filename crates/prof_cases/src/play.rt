@@ -3,6 +3,7 @@ ghost use Rattle.std.specs.Prelude.{◌≡◌, ◌<◌, ◌≤◌};
 
 use crate::case::{Call, Case, Named, Object, Wanted};
 use crate::difference::compare;
+use crate::scripts::play_script_of;
 use anyhow::Result;
 use prof_desk::{Status, run};
 use prof_io::{Keeper, Steps, Text};
@@ -32,6 +33,19 @@ fn counted<L: Ledger>(
     requires some { 0 < L.parts }
 {
     let mut reads: Steps<L> = Steps::new(blank);
+    if let [first, profile, script] = words
+        && first.as_str() == "play"
+    {
+        return play_script_of(
+            alloc,
+            profile.as_str(),
+            script.as_str(),
+            &mut outside.files,
+            &mut outside.keeper,
+            &mut outside.out,
+            &mut reads,
+        );
+    }
     run(
         alloc,
         words,

@@ -1,4 +1,3 @@
-pub mod Pieces
 pub mod Found
 pub mod Fresh
 pub mod Held

@@ -8,8 +8,8 @@ use Rattle.prof_raw.specs.declared.rule.Table.TheVariants as table
 use Rattle.prof_raw.specs.declared.rule.Column.{Column}
 use Rattle.prof_raw.specs.declared.rule.Column.TheVariants as column
 use Rattle.prof_raw.specs.declared.rule.Broken.{Broken}
-use Rattle.prof_json.specs.declared.answer.JsonFault.{JsonFault}
-use Rattle.prof_json.specs.declared.answer.JsonFault.TheVariants.{NotJson, TooDeep, TooLong, ReadFault, NoMemory}
+use Rattle.prof_token.specs.declared.fault.JsonFault.{JsonFault}
+use Rattle.prof_token.specs.declared.fault.JsonFault.TheVariants.{NotJson, TooDeep, TooLong, ReadFault, NoMemory}
 use Rattle.prof_desk.specs.declared.breaks.Break.{Break}
 use Rattle.prof_desk.specs.declared.breaks.Break.TheVariants as break
 

@@ -13,13 +13,14 @@ use Rattle.prof_path.specs.declared.transform.Implementation.TheVariants.{Combin
 use Rattle.prof_path.specs.Terms.{is_long_search, terms_of}
 use Rattle.prof_path.specs.Views.{ViewLists}
 use Rattle.prof_tree.specs.Views.{plain_tree, selected_weight, dropped_weight}
-use Rattle.prof_desk.specs.declared.reply.Refusal.TheVariants.{NoSession, NoThread, LongSearch}
+use Rattle.prof_machine.specs.declared.refusal.Refusal.TheVariants.{NoSession, NoThread, LongSearch}
 use Rattle.prof_desk.specs.declared.words.Order.{Order}
 use Rattle.prof_desk.specs.declared.words.Order.TheVariants.{Tree, Markers, Check, Gen}
 use Rattle.prof_desk.specs.Inputs.{Input, of_profile}
-use Rattle.prof_desk.specs.Replies.{markers_text, refusal_text, tree_text}
+use Rattle.prof_reply.specs.Refusals.{refusal_text}
+use Rattle.prof_reply.specs.Replies.{markers_text, tree_text}
 use Rattle.prof_desk.specs.Summary.{summary_text}
-use Rattle.prof_desk.specs.Telling.{line}
+use Rattle.prof_reply.specs.Lines.{line}
 use Rattle.prof_desk.specs.Ways.{Ways}
 
 -- the view of a session that has just been opened on the first thread

@@ -9,7 +9,7 @@ use Rattle.prof_tables.specs.Profiles.{ProfileTables}
 use Rattle.prof_tables.specs.Threads.{ThreadTables}
 use Rattle.prof_writer.specs.Writing.{quoted}
 use Rattle.prof_desk.specs.Lines.{thread_head}
-use Rattle.prof_desk.specs.Telling.{line}
+use Rattle.prof_reply.specs.Lines.{line}
 
 abbrev pub form_text : Form → List ℕ
 form_text Processed = codes "processed"

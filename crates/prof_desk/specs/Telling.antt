@@ -1,13 +1,10 @@
 -- What is told of a status.
-use Rattle.std.specs.Prelude.{ℕ, List, [], ◌∷◌, ◌++◌, codes}
+use Rattle.std.specs.Prelude.{ℕ, List, [], ◌++◌, codes}
+use Rattle.prof_reply.specs.Lines.{line}
 use Rattle.prof_desk.specs.declared.status.Status.{Status}
 use Rattle.prof_desk.specs.declared.status.Status.TheVariants.{Done, Broken, Usage, FileFault, OutFault, HallFault, NoMemory, KeeperFault}
 use Rattle.prof_words.specs.declared.order.WordRefusal.{WordRefusal}
 use Rattle.prof_words.specs.declared.order.WordRefusal.TheVariants as refusal
-
--- a line
-abbrev pub line : List ℕ → List ℕ
-line text = text ++ 10 ∷ []
 
 -- what is told of a status, where the file of that name is at fault, or the text breaks as it is said
 abbrev pub told : Status → List ℕ → List ℕ → List ℕ

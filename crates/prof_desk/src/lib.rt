@@ -9,14 +9,14 @@ mod outcome;
 mod own;
 mod playing;
 mod reading;
-mod reply;
 mod status;
 mod summary;
 mod telling;
 mod words;
 
 pub use desk::{refuse, run};
+pub use prof_machine::{Refusal, Reply};
+pub use prof_reply::reply_text;
 pub use prof_words::WordRefusal;
-pub use reply::{Refusal, Reply, reply_text};
 pub use status::Status;
 pub use words::{Order, read_words};

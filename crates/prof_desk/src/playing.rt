@@ -3,20 +3,22 @@ ghost use Rattle.std.specs.Prelude.{◌≡◌, ◌≤◌, ◌+◌, ◌++◌, cod
 ghost use Rattle.std.specs.Fmt.{decimal};
 ghost use Rattle.prof_desk.specs.Output.{first_rows, markers_replies, tree_replies, unopened};
 ghost use Rattle.prof_desk.specs.Playing.{Leaves, status_of};
-ghost use Rattle.prof_desk.specs.Replies.{CanTell, reply_bytes};
+ghost use Rattle.prof_desk.specs.Replies.{CanTell};
+ghost use Rattle.prof_reply.specs.Replies.{reply_bytes};
 ghost use Rattle.prof_desk.specs.Summary.{summary_text};
-ghost use Rattle.prof_desk.specs.Telling.{line};
+ghost use Rattle.prof_reply.specs.Lines.{line};
 ghost use Rattle.prof_demo.specs.Generated.{generated};
 ghost use Rattle.prof_io.specs.Outside.{seen};
 ghost use Rattle.prof_io.specs.Sinks.{Wrote};
 
 use crate::markers::markers_reply;
 use crate::own::opened_tree;
-use crate::reply::{Refusal, Reply, reply_text};
 use crate::summary::{thread_count, write_summary};
 use prof_demo::generate;
 use prof_io::{OutFault, Sink, Steps};
+use prof_machine::{Refusal, Reply};
 use prof_read::{Digest, Form};
+use prof_reply::reply_text;
 use prof_tables::{Profile, Thread};
 use std::alloc::Global;
 use std::sync::ledger::Ledger;

@@ -5,7 +5,7 @@ ghost use Rattle.std.specs.List.{enumerate_from, flat_map};
 ghost use Rattle.hex.specs.Hex.{encode_lower};
 ghost use Rattle.prof_desk.specs.Lines.{thread_head};
 ghost use Rattle.prof_desk.specs.Summary.{form_text, summary_text, thread_line};
-ghost use Rattle.prof_desk.specs.Telling.{line};
+ghost use Rattle.prof_reply.specs.Lines.{line};
 ghost use Rattle.prof_io.specs.Outside.{seen};
 ghost use Rattle.prof_io.specs.Sinks.{Wrote};
 ghost use Rattle.prof_page.specs.Gathering.{Gathers};

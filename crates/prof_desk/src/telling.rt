@@ -2,7 +2,8 @@
 ghost use Rattle.std.specs.Prelude.{◌++◌};
 ghost use Rattle.prof_io.specs.Outside.{seen};
 ghost use Rattle.prof_io.specs.Sinks.{Wrote};
-ghost use Rattle.prof_desk.specs.Telling.{told, line};
+ghost use Rattle.prof_desk.specs.Telling.{told};
+ghost use Rattle.prof_reply.specs.Lines.{line};
 
 use crate::Status;
 use prof_io::{OutFault, Sink, copy_out};

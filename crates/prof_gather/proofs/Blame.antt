@@ -2,8 +2,8 @@
 use Rattle.std.proofs.Common.{◌≡◌, ◌≢◌, ℕ, ◌≤◌, refl, sym, subst, ◌∙◌, arith}
 use Rattle.std.specs.Prelude.{Option, Some, None, IfSome}
 use Rattle.prof_io.specs.Causes.{Rose}
-use Rattle.prof_json.specs.declared.answer.JsonFault.{JsonFault}
-use Rattle.prof_json.specs.declared.answer.JsonFault.TheVariants as fault
+use Rattle.prof_token.specs.declared.fault.JsonFault.{JsonFault}
+use Rattle.prof_token.specs.declared.fault.JsonFault.TheVariants as fault
 use Rattle.prof_gather.specs.Feeding.{Told, Refuses}
 use Rattle.prof_gather.specs.Keeping.{Blames}
 use Rattle.prof_gather.specs.Refusals.{refusal_of}

@@ -14,8 +14,8 @@ use Rattle.prof_gather.specs.Reading.{Comes, Ends, rest_of, IsOfReading}
 use Rattle.prof_gather.proofs.SoFar.{so_far_more, ends_by, comes_of}
 use Rattle.prof_json.specs.declared.answer.Event.{Event}
 use Rattle.prof_json.specs.declared.answer.Event.TheVariants as event
-use Rattle.prof_json.specs.declared.answer.JsonFault.{JsonFault}
-use Rattle.prof_json.specs.declared.answer.JsonFault.TheVariants as fault
+use Rattle.prof_token.specs.declared.fault.JsonFault.{JsonFault}
+use Rattle.prof_token.specs.declared.fault.JsonFault.TheVariants as fault
 use Rattle.prof_gather.specs.Feeding.{told_of, Gives, Passes}
 use Rattle.prof_gather.specs.Keeping.{IsKept, Blames, IsBehind}
 use Rattle.prof_gather.proofs.Steps.{leads_occurs, leads_behind, gives, closes_passes, closes_occurs}

@@ -5,12 +5,12 @@ use Rattle.prof_grammar.specs.Event as told
 use Rattle.prof_grammar.specs.Machine.{start}
 use Rattle.prof_grammar.specs.Reading.{Ending, finished, not_json, too_deep, too_long}
 use Rattle.prof_grammar.specs.Told.{Reading, reading, tell, stop}
-use Rattle.prof_json.specs.Ahead.{Knows}
+use Rattle.prof_token.specs.Ahead.{Knows}
 use Rattle.prof_json.specs.Position.{Position}
 use Rattle.prof_json.specs.Tells.{rest, Tells, FailsBy}
 use Rattle.prof_json.specs.Tells as reader
-use Rattle.prof_json.specs.declared.answer.JsonFault.{JsonFault}
-use Rattle.prof_json.specs.declared.answer.JsonFault.TheVariants.{NotJson, TooDeep, TooLong, ReadFault, NoMemory}
+use Rattle.prof_token.specs.declared.fault.JsonFault.{JsonFault}
+use Rattle.prof_token.specs.declared.fault.JsonFault.TheVariants.{NotJson, TooDeep, TooLong, ReadFault, NoMemory}
 use Rattle.prof_grammar.specs.declared.TheConstants.{LONGEST}
 use Rattle.prof_gather.specs.Reading.{rest_of, Comes, Ends, IsEnding, IsSoFar, EndsBy, IsOfReading}
 use Rattle.prof_gather.proofs.Comings.{tell-append}

@@ -6,8 +6,8 @@ use Rattle.prof_grammar.specs.Told.{Reading}
 use Rattle.prof_json.specs.Position.{Position}
 use Rattle.prof_json.specs.declared.answer.Event.{Event}
 use Rattle.prof_json.specs.declared.answer.Event.TheVariants as event
-use Rattle.prof_json.specs.declared.answer.JsonFault.{JsonFault}
-use Rattle.prof_json.specs.declared.answer.JsonFault.TheVariants as fault
+use Rattle.prof_token.specs.declared.fault.JsonFault.{JsonFault}
+use Rattle.prof_token.specs.declared.fault.JsonFault.TheVariants as fault
 use Rattle.prof_gather.specs.Reading.{rest_of, Comes, Ends}
 use Rattle.prof_gather.specs.declared.refusal.GatherRefusal.{GatherRefusal}
 use Rattle.prof_gather.specs.declared.refusal.GatherRefusal.TheVariants as refusal

@@ -9,8 +9,8 @@ use Rattle.prof_json.specs.Nest.{Occurs}
 use Rattle.prof_json.specs.declared.nesting.Phase.{Phase}
 use Rattle.prof_json.specs.declared.nesting.Phase.TheVariants as phase
 use Rattle.prof_json.specs.Position.{Position}
-use Rattle.prof_json.specs.declared.answer.JsonFault.{JsonFault}
-use Rattle.prof_json.specs.declared.answer.JsonFault.TheVariants as fault
+use Rattle.prof_token.specs.declared.fault.JsonFault.{JsonFault}
+use Rattle.prof_token.specs.declared.fault.JsonFault.TheVariants as fault
 
 -- where the source has failed its count rose, and it wasn't sure; else the count is what it was
 abbrev pub Blames : Option JsonFault → ℕ → ℕ → Type 0 → Type 0

@@ -5,11 +5,11 @@ use Rattle.prof_grammar.specs.Machine.{start}
 use Rattle.prof_grammar.specs.Reading.{Ending, finished, not_json, too_deep, too_long}
 use Rattle.prof_grammar.specs.Told.{Reading, reading, tell, stop}
 use Rattle.prof_grammar.specs.declared.TheConstants.{LONGEST}
-use Rattle.prof_json.specs.Ahead.{Knows}
+use Rattle.prof_token.specs.Ahead.{Knows}
 use Rattle.prof_json.specs.Position.{Position}
 use Rattle.prof_json.specs.Tells.{rest}
-use Rattle.prof_json.specs.declared.answer.JsonFault.{JsonFault}
-use Rattle.prof_json.specs.declared.answer.JsonFault.TheVariants.{NotJson, TooDeep, TooLong, ReadFault, NoMemory}
+use Rattle.prof_token.specs.declared.fault.JsonFault.{JsonFault}
+use Rattle.prof_token.specs.declared.fault.JsonFault.TheVariants.{NotJson, TooDeep, TooLong, ReadFault, NoMemory}
 
 -- what is read from a reader's position on, where the source tells its bytes
 abbrev pub rest_of : Position → Option (List ℕ) → Option Reading

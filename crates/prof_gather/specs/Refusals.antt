@@ -1,6 +1,6 @@
 -- Why a text wasn't gathered, by why its reader stopped.
-use Rattle.prof_json.specs.declared.answer.JsonFault.{JsonFault}
-use Rattle.prof_json.specs.declared.answer.JsonFault.TheVariants as fault
+use Rattle.prof_token.specs.declared.fault.JsonFault.{JsonFault}
+use Rattle.prof_token.specs.declared.fault.JsonFault.TheVariants as fault
 use Rattle.prof_gather.specs.declared.refusal.GatherRefusal.{GatherRefusal}
 use Rattle.prof_gather.specs.declared.refusal.GatherRefusal.TheVariants as refusal
 

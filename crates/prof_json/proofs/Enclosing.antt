@@ -3,9 +3,9 @@ use Rattle.std.proofs.Common.{◌≡◌, ◌≢◌, ℕ, suc, ◌+◌, ◌-◌, 
 use Rattle.std.specs.Prelude.{Some, None, Result, Ok, Err, IfOk, slice_get, ◌⊎◌}
 use Rattle.std.proofs.Common.{inl, inr}
 use Rattle.std.proofs.lemmas.List.{length-append, take-append-le, take_all}
-use Rattle.prof_json.specs.Ahead.{Ahead, Passes}
-use Rattle.prof_json.specs.Kept.{Kept, Adds, with}
-use Rattle.prof_json.specs.Numbers.{IsNumeral}
+use Rattle.prof_token.specs.Ahead.{Ahead, Passes}
+use Rattle.prof_token.specs.Kept.{Kept, Adds, with}
+use Rattle.prof_token.specs.Numbers.{IsNumeral}
 use Rattle.prof_json.specs.Nest as nest
 use Rattle.prof_json.specs.Nest.{Nest, Leads, TakesValue, IsWithin, phase_after}
 use Rattle.prof_json.specs.Step as s
@@ -14,7 +14,7 @@ use Rattle.prof_json.specs.declared.nesting.Bracket.{Bracket}
 use Rattle.prof_json.specs.declared.nesting.Bracket.TheVariants.{Array, Object}
 use Rattle.prof_json.specs.declared.nesting.Phase.{Phase}
 use Rattle.prof_json.specs.declared.nesting.Phase.TheVariants.{FirstItem, FirstMember, AfterName, AfterValue}
-use Rattle.prof_json.specs.declared.answer.JsonFault.{JsonFault}
+use Rattle.prof_token.specs.declared.fault.JsonFault.{JsonFault}
 use Rattle.prof_json.specs.declared.answer.Event.{Event}
 use Rattle.prof_json.specs.declared.answer.Event.TheVariants as e
 

@@ -8,15 +8,15 @@ use Rattle.prof_grammar.proofs.Ended.{reads_right}
 use Rattle.std.specs.Prelude.{Option, Some, None}
 use Rattle.std.specs.Option.{option_to_list}
 use Rattle.prof_grammar.specs.Machine.{Part}
-use Rattle.prof_json.specs.Ahead.{Ahead}
-use Rattle.prof_json.specs.Goes.{Answers}
+use Rattle.prof_token.specs.Ahead.{Ahead}
+use Rattle.prof_token.specs.Goes.{Answers}
 use Rattle.prof_json.specs.Nest.{phase_after}
 use Rattle.prof_json.specs.Parts.{parts_in, parts_of, behind}
 use Rattle.prof_json.specs.declared.nesting.Bracket.{Bracket}
 use Rattle.prof_json.specs.declared.nesting.Phase.{Phase}
 use Rattle.prof_json.specs.declared.answer.Event.{Event}
-use Rattle.prof_json.proofs.Machines.{told_trans}
-use Rattle.prof_json.specs.Kept.{Kept, Gains, with}
+use Rattle.prof_token.proofs.Machines.{told_trans}
+use Rattle.prof_token.specs.Kept.{Kept, Gains, with}
 use Rattle.prof_json.specs.Position.{Position, fresh, last_of}
 use Rattle.prof_json.specs.Tells.{Tells, Ends, rest, window}
 

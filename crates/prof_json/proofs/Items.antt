@@ -15,19 +15,19 @@ use Rattle.prof_time.specs.Numeral.{AreDigits, IsInt, IsFraction}
 use Rattle.std.specs.Char.{IsAsciiDigit}
 use Rattle.std.specs.Str.{IsUtf8}
 use Rattle.std.proofs.lemmas.Str.{IsUtf8-from_ascii}
-use Rattle.prof_json.specs.Ahead.{Ahead, IsNext, Passes}
-use Rattle.prof_json.specs.Bytes.{Each, none, more, is_digit, is_e, is_space, follows_item}
-use Rattle.prof_json.specs.Goes.{Goes, Answers, rest_of}
-use Rattle.prof_json.specs.Kept.{Kept, Adds, Gains}
-use Rattle.prof_json.specs.Numbers.{IsFractionText, IsNumeral, IsPlain}
-use Rattle.prof_json.specs.Stages as g
-use Rattle.prof_json.specs.Stages.{IsRunning, MayEnd, TakesFraction, TakesExponent, no_byte, whole_stage, may_come}
-use Rattle.prof_json.proofs.Machines.{goes_trans, reading_step}
+use Rattle.prof_token.specs.Ahead.{Ahead, IsNext, Passes}
+use Rattle.prof_token.specs.Bytes.{Each, none, more, is_digit, is_e, is_space, follows_item}
+use Rattle.prof_token.specs.Goes.{Goes, Answers, rest_of}
+use Rattle.prof_token.specs.Kept.{Kept, Adds, Gains}
+use Rattle.prof_token.specs.Numbers.{IsFractionText, IsNumeral, IsPlain}
+use Rattle.prof_token.specs.Stages as g
+use Rattle.prof_token.specs.Stages.{IsRunning, MayEnd, TakesFraction, TakesExponent, no_byte, whole_stage, may_come}
+use Rattle.prof_token.proofs.Machines.{goes_trans, reading_step}
 use Rattle.prof_json.proofs.Standing.{IsBehind, value_step, more_items_comma, come_items}
-use Rattle.prof_json.proofs.Texts.{is_ascii_digit_of, each_digits}
-use Rattle.prof_json.proofs.Turns.{blank_over, digits_on, number_on, point_on, wants_point, begins_digit, whole_runs, takes_fraction, over_zero, over_whole, over_fraction}
-use Rattle.prof_json.proofs.Utf8.{each_ascii}
-use Rattle.prof_json.proofs.Written.{number_told}
+use Rattle.prof_token.proofs.Texts.{is_ascii_digit_of, each_digits}
+use Rattle.prof_token.proofs.Turns.{blank_over, digits_on, number_on, point_on, wants_point, begins_digit, whole_runs, takes_fraction, over_zero, over_whole, over_fraction}
+use Rattle.prof_token.proofs.Utf8.{each_ascii}
+use Rattle.prof_json.proofs.Closing.{number_told}
 
 -- ---- bytes over which the machine tells nothing
 

@@ -4,8 +4,8 @@ use Rattle.std.specs.Prelude.{Option, Some, None}
 use Rattle.std.specs.Option.{option_to_list}
 use Rattle.std.proofs.lemmas.List.{append_assoc, length-take}
 use Rattle.prof_grammar.specs.Event.{Event}
-use Rattle.prof_json.specs.Ahead.{Ahead}
-use Rattle.prof_json.specs.Goes.{Goes}
+use Rattle.prof_token.specs.Ahead.{Ahead}
+use Rattle.prof_token.specs.Goes.{Goes}
 use Rattle.prof_json.specs.Nest.{Leads, Occurs, phase_after}
 use Rattle.prof_json.specs.Parts.{behind, parts_in}
 use Rattle.prof_json.specs.Position.{last_of}
@@ -14,7 +14,7 @@ use Rattle.prof_json.specs.declared.nesting.Bracket.{Bracket}
 use Rattle.prof_json.specs.declared.nesting.Phase.{Phase}
 use Rattle.prof_json.specs.declared.nesting.Phase.TheVariants.{AfterValue}
 use Rattle.prof_json.specs.declared.answer.Event as r
-use Rattle.prof_json.proofs.Machines.{goes_here, goes_more}
+use Rattle.prof_token.proofs.Machines.{goes_here, goes_more}
 use Rattle.prof_json.proofs.Skipping.{Progress, Has, GoesOn, first_of, begun_has, event_has, still_on, is_over, rest_is}
 
 -- these events were told, and this is how far the value has come

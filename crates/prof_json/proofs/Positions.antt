@@ -3,7 +3,7 @@ use Rattle.std.proofs.Common.{sym, ◌≡◌, ◌≢◌, ℕ, ◌-◌, ◌<◌, 
 use Rattle.std.specs.Prelude.{Option, Some, None, ◌⊎◌}
 use Rattle.std.proofs.lemmas.List.{length-append, take_all, take-append-le}
 use Rattle.prof_grammar.specs.Event as t
-use Rattle.prof_json.specs.Numbers.{IsNumeral}
+use Rattle.prof_token.specs.Numbers.{IsNumeral}
 use Rattle.prof_json.specs.Nest.{IsWithin, Occurs}
 use Rattle.prof_json.specs.Position as p
 use Rattle.prof_json.specs.Position.{Position, fresh, last_of, IsReady, IsSound, IsLast}
@@ -13,7 +13,7 @@ use Rattle.prof_json.specs.declared.nesting.Bracket.{Bracket}
 use Rattle.prof_json.specs.declared.nesting.Bracket.TheVariants.{Array, Object}
 use Rattle.prof_json.specs.declared.nesting.Phase.{Phase}
 use Rattle.prof_json.specs.declared.nesting.Phase.TheVariants.{Start, AfterName, AfterValue}
-use Rattle.prof_json.specs.declared.answer.JsonFault.{JsonFault}
+use Rattle.prof_token.specs.declared.fault.JsonFault.{JsonFault}
 use Rattle.prof_json.specs.declared.answer.Event.{Event}
 use Rattle.prof_json.specs.declared.answer.Event.TheVariants.{ObjectStart, ObjectEnd, ArrayStart, ArrayEnd, Name, Str, Number, True, False, Null, End}
 

@@ -11,15 +11,15 @@ use Rattle.prof_grammar.specs.Reading.{max_depth}
 use Rattle.prof_grammar.specs.Told.{depth}
 use Rattle.prof_grammar.proofs.Language as l
 use Rattle.prof_grammar.proofs.Language.{Fits, class_fits}
-use Rattle.prof_json.specs.Bytes.{is_space, is_digit}
-use Rattle.prof_json.specs.Stages.{may_come}
+use Rattle.prof_token.specs.Bytes.{is_space, is_digit}
+use Rattle.prof_token.specs.Stages.{may_come}
 use Rattle.prof_json.specs.Gives.{TakesName}
 use Rattle.prof_json.specs.Nest.{IsWithin}
 use Rattle.prof_json.specs.Parts.{within, behind, parts_in}
 use Rattle.prof_json.specs.declared.nesting.Bracket.{Bracket}
 use Rattle.prof_json.specs.declared.nesting.Bracket.TheVariants.{Array, Object}
 use Rattle.prof_json.specs.declared.nesting.Phase.TheVariants.{AfterName}
-use Rattle.prof_json.proofs.Turns.{blank_on, blank_over}
+use Rattle.prof_token.proofs.Turns.{blank_on, blank_over}
 
 -- ---- brackets
 

@@ -9,7 +9,7 @@ use Rattle.prof_json.specs.Position.{last_of}
 use Rattle.prof_json.specs.declared.nesting.Bracket.{Bracket}
 use Rattle.prof_json.specs.declared.nesting.Phase.TheVariants.{AfterName}
 use Rattle.prof_json.specs.declared.answer.Event as e
-use Rattle.prof_json.specs.declared.answer.JsonFault.{JsonFault}
+use Rattle.prof_token.specs.declared.fault.JsonFault.{JsonFault}
 
 -- the event of the text that the reader's event is, with its text; the end is none
 abbrev pub told_by : Result e.Event JsonFault → List ℕ → List Event

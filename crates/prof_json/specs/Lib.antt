@@ -1,16 +1,7 @@
-pub mod Bytes
-pub mod Ahead
-pub mod Moves
-pub mod Own
-pub mod Kept
-pub mod Numbers
 pub mod Nest
 pub mod Position
 pub mod Step
 pub mod Skip
 pub mod Parts
-pub mod Goes
-pub mod Writes
-pub mod Stages
 pub mod Gives
 pub mod Tells

@@ -1,13 +1,13 @@
 -- Where a reader stands.
 use Rattle.std.specs.Prelude.{◌≡◌, ℕ, ◌≤◌, List, [], length, Option, Some, None, IfSome, true, false, ⊤}
 use Rattle.prof_grammar.specs.Event as e
-use Rattle.prof_json.specs.Numbers.{IsNumeral}
+use Rattle.prof_token.specs.Numbers.{IsNumeral}
 use Rattle.prof_json.specs.Nest.{Nest, Occurs, phase_after}
 use Rattle.prof_json.specs.declared.nesting.Bracket.{Bracket}
 use Rattle.prof_json.specs.declared.nesting.Phase.{Phase}
 use Rattle.prof_json.specs.declared.nesting.Phase.TheVariants.{Start}
-use Rattle.prof_json.specs.declared.answer.JsonFault.{JsonFault}
-use Rattle.prof_json.specs.declared.answer.JsonFault.TheVariants.{NotJson, TooDeep, TooLong, ReadFault, NoMemory}
+use Rattle.prof_token.specs.declared.fault.JsonFault.{JsonFault}
+use Rattle.prof_token.specs.declared.fault.JsonFault.TheVariants.{NotJson, TooDeep, TooLong, ReadFault, NoMemory}
 use Rattle.prof_json.specs.declared.answer.Event.{Event}
 use Rattle.prof_json.specs.declared.answer.Event.TheVariants.{ObjectStart, ObjectEnd, ArrayStart, ArrayEnd, Name, Str, Number, True, False, Null, End}
 

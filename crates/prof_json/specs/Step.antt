@@ -1,9 +1,9 @@
 -- What reading one event gives.
 use Rattle.std.specs.Prelude.{◌≡◌, ◌≢◌, ℕ, ◌+◌, ◌<◌, ◌≤◌, List, [], ◌∷◌, ◌++◌, length, take, true, Some}
-use Rattle.prof_json.specs.Ahead.{Ahead, IsNext, Passes}
-use Rattle.prof_json.specs.Bytes.{follows_item}
-use Rattle.prof_json.specs.Kept.{Kept, Gains}
-use Rattle.prof_json.specs.Numbers.{IsPlain}
+use Rattle.prof_token.specs.Ahead.{Ahead, IsNext, Passes}
+use Rattle.prof_token.specs.Bytes.{follows_item}
+use Rattle.prof_token.specs.Kept.{Kept, Gains}
+use Rattle.prof_token.specs.Numbers.{IsPlain}
 use Rattle.prof_json.specs.Nest.{Nest, Leads, phase_after}
 use Rattle.prof_json.specs.Position.{IsSound}
 use Rattle.prof_json.specs.declared.nesting.Bracket.{Bracket}

@@ -3,11 +3,11 @@ use Rattle.std.specs.Prelude.{◌≡◌, ℕ, List, Option}
 use Rattle.prof_grammar.specs.Event.{Event}
 use Rattle.prof_grammar.specs.Reading.{Ending}
 use Rattle.prof_grammar.specs.Told.{Reading, tell}
-use Rattle.prof_json.specs.Ahead.{Ahead, Knows}
-use Rattle.prof_json.specs.Goes.{rest_of, Stops, IsEndedBy, IsFaultOf}
+use Rattle.prof_token.specs.Ahead.{Ahead, Knows}
+use Rattle.prof_token.specs.Goes.{rest_of, Stops, IsEndedBy, IsFaultOf}
 use Rattle.prof_json.specs.Parts.{parts_of}
 use Rattle.prof_json.specs.Position.{Position}
-use Rattle.prof_json.specs.declared.answer.JsonFault.{JsonFault}
+use Rattle.prof_token.specs.declared.fault.JsonFault.{JsonFault}
 
 -- the bytes that were taken and not yet read
 abbrev pub window : Position → Ahead

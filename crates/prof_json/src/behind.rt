@@ -1,12 +1,11 @@
 // What may stand behind a number.
 ghost use Rattle.std.specs.Prelude.{◌≡◌, ◌||◌, ◌==◌};
-ghost use Rattle.prof_json.specs.Bytes.{follows_item, is_space};
-ghost use Rattle.prof_json.specs.Stages.{may_come};
+ghost use Rattle.prof_token.specs.Bytes.{follows_item, is_space};
+ghost use Rattle.prof_token.specs.Stages.{may_come};
 ghost use Rattle.prof_json.specs.Parts.{behind};
 
-use crate::input::Input;
-use crate::scan::is_blank;
-use crate::{Bracket, JsonFault};
+use crate::Bracket;
+use prof_token::is_blank;
 
 /// Whether the byte may stand behind an item.
 pub fn may_follow_item(byte: u8) -> bool

@@ -3,20 +3,14 @@
 
 mod answer;
 mod behind;
-mod buffer;
-mod escape;
-mod input;
 pub mod laws;
 mod nesting;
-mod number;
 mod plain;
 mod reading;
-mod scan;
 mod steps;
-mod string;
-mod token;
 mod value;
 
-pub use answer::{Event, JsonFault};
+pub use answer::Event;
 pub use nesting::{Bracket, Phase};
+pub use prof_token::JsonFault;
 pub use reading::Reader;

@@ -1,11 +1,11 @@
 // Numbers that lie whole within a window, without a sign and without an exponent, as most are.
 ghost use Rattle.std.specs.Prelude.{◌≡◌, ◌<◌, ◌≤◌, ◌+◌, ◌∷◌, true, drop, length, slice_index, take};
 ghost use Rattle.prof_time.specs.Numeral.{IsInt};
-ghost use Rattle.prof_json.specs.Bytes.{follows_item};
-ghost use Rattle.prof_json.specs.Numbers.{IsFractionText, IsPlain};
+ghost use Rattle.prof_token.specs.Bytes.{follows_item};
+ghost use Rattle.prof_token.specs.Numbers.{IsFractionText, IsPlain};
 
 use crate::behind::may_follow_item;
-use crate::scan::digit_len;
+use prof_token::digit_len;
 
 /// How long the whole part of a number is that stands at the front, 0 where none does.
 fn whole_len(bytes: &[u8]) -> usize

@@ -4,19 +4,18 @@ ghost use Rattle.std.specs.Io.KnownBytes.{IsAtEnd};
 ghost use Rattle.prof_io.specs.Causes.{Rose};
 ghost use Rattle.prof_grammar.specs.Event as grammar;
 ghost use Rattle.prof_io.specs.Outside.{seen};
-ghost use Rattle.prof_json.specs.Goes.{Goes, IsFaultOf};
-ghost use Rattle.prof_json.specs.Own.{Owns};
-ghost use Rattle.prof_json.specs.Moves.{Moves, Reads, fault_of};
+ghost use Rattle.prof_token.specs.Goes.{Goes, IsFaultOf};
+ghost use Rattle.prof_token.specs.Own.{Owns};
+ghost use Rattle.prof_token.specs.Moves.{Moves, Reads, fault_of};
 ghost use Rattle.prof_json.specs.Nest.{Occurs};
 ghost use Rattle.prof_json.specs.Parts.{behind, parts_in};
 ghost use Rattle.prof_json.specs.Skip.{IsBegun, IsAround, IsRest, outside_of};
 
-use crate::buffer::Buffer;
-use crate::input::Input;
 use crate::nesting::phase_after;
 use crate::steps::read_event;
 use crate::{Bracket, Event, JsonFault, Phase};
 use prof_io::{NoMemory, Source};
+use prof_token::{Buffer, Input};
 use std::alloc::Global;
 use std::marker::Model;
 
@@ -99,7 +98,7 @@ impl Reader {
     ghost use Rattle.prof_grammar.specs.Event.{number};
     ghost use Rattle.prof_grammar.specs.Reading.{IsReading, finished};
     ghost use Rattle.prof_json.specs.Nest.{Leads};
-    ghost use Rattle.prof_json.specs.Numbers.{IsNumeral};
+    ghost use Rattle.prof_token.specs.Numbers.{IsNumeral};
     ghost use Rattle.prof_json.specs.Position.{IsLast, StandsAt, fresh};
     ghost use Rattle.prof_json.specs.Skip.{IsText, IsSkippable, IsSkipped, Closes};
     ghost use Rattle.prof_json.specs.Tells.{Tells, Ends, EndsBy, FailsBy, rest};

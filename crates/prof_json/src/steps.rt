@@ -5,25 +5,22 @@ ghost use Rattle.prof_grammar.specs.Grammar.{value};
 ghost use Rattle.prof_grammar.specs.Machine.{Part, blank, symbol};
 ghost use Rattle.prof_grammar.specs.Reading.{finished};
 ghost use Rattle.prof_io.specs.Outside.{seen};
-ghost use Rattle.prof_json.specs.Ahead.{IsNext, Passes};
-ghost use Rattle.prof_json.specs.Goes.{Goes, Stops};
-ghost use Rattle.prof_json.specs.Writes.{Writes};
+ghost use Rattle.prof_token.specs.Ahead.{IsNext, Passes};
+ghost use Rattle.prof_token.specs.Goes.{Goes, Stops};
+ghost use Rattle.prof_token.specs.Writes.{Writes};
 ghost use Rattle.prof_json.specs.Gives.{TakesName, told_by, parts_behind};
-ghost use Rattle.prof_json.specs.Kept.{Kept, Gains};
+ghost use Rattle.prof_token.specs.Kept.{Kept, Gains};
 ghost use Rattle.prof_json.specs.Nest.{Occurs, IsWithin};
 ghost use Rattle.prof_json.specs.Parts.{behind, parts_in};
 ghost use Rattle.prof_json.specs.Step.{BeginsValue, IsStep, ReadsItem};
-ghost use Rattle.prof_json.specs.Own.{Owns};
-ghost use Rattle.prof_json.specs.Moves.{Moves, fault_of};
+ghost use Rattle.prof_token.specs.Own.{Owns};
+ghost use Rattle.prof_token.specs.Moves.{Moves, fault_of};
 
-use crate::buffer::Buffer;
-use crate::input::Input;
 use crate::plain::item_len;
-use crate::string::read_string;
-use crate::token::{need_behind_blank, pass_mark, skip_blank};
 use crate::value::begin_value;
 use crate::{Bracket, Event, JsonFault, Phase};
 use prof_io::Source;
+use prof_token::{Buffer, Input, need_behind_blank, pass_mark, read_string, skip_blank};
 
 /// Reads blanks, and the value behind them or its opening bracket.
 fn read_value<S: Source>(

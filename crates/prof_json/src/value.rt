@@ -4,26 +4,21 @@ ghost use Rattle.prof_grammar.specs.Event.{number};
 ghost use Rattle.prof_grammar.specs.Machine as machine;
 ghost use Rattle.prof_grammar.specs.Machine.{Part, class, step};
 ghost use Rattle.prof_io.specs.Outside.{seen};
-ghost use Rattle.prof_json.specs.Ahead.{IsNext, Passes};
-ghost use Rattle.prof_json.specs.Bytes as bytes_spec;
-ghost use Rattle.prof_json.specs.Writes.{Writes};
+ghost use Rattle.prof_token.specs.Ahead.{IsNext, Passes};
+ghost use Rattle.prof_token.specs.Bytes as bytes_spec;
+ghost use Rattle.prof_token.specs.Writes.{Writes};
 ghost use Rattle.prof_json.specs.Gives.{told_by, parts_behind};
-ghost use Rattle.prof_json.specs.Kept.{Kept, Adds, Gains};
+ghost use Rattle.prof_token.specs.Kept.{Kept, Adds, Gains};
 ghost use Rattle.prof_json.specs.Parts.{behind};
-ghost use Rattle.prof_json.specs.Numbers.{IsNumeral};
+ghost use Rattle.prof_token.specs.Numbers.{IsNumeral};
 ghost use Rattle.prof_json.specs.Step.{BeginsValue};
-ghost use Rattle.prof_json.specs.Own.{Owns};
-ghost use Rattle.prof_json.specs.Moves.{Moves, fault_of};
+ghost use Rattle.prof_token.specs.Own.{Owns};
+ghost use Rattle.prof_token.specs.Moves.{Moves, fault_of};
 
 use crate::behind::may_follow;
-use crate::buffer::Buffer;
-use crate::input::Input;
-use crate::number::read_number;
-use crate::scan::is_digit;
-use crate::string::read_string;
-use crate::token::pass_word;
 use crate::{Bracket, Event, JsonFault};
 use prof_io::Source;
+use prof_token::{Buffer, Input, is_digit, pass_word, read_number, read_string};
 
 /// How many brackets may be open at once.
 const MOST_DEEP: usize = 256;

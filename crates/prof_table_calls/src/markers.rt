@@ -1,7 +1,8 @@
 //! The markers of a small thread, and what a search finds among them.
-use crate::profiles::{MARKED, MARKED_ALONE, thread_of};
 use prof_marker::{Marker, MarkerList, derive, search, spans};
 use prof_path::{Range, Span, terms};
+use prof_worked::profiles::{MARKED, MARKED_ALONE};
+use prof_worked::thread_of;
 use std::test::Fail;
 
 /// A marker with the places of its start's texts and of its end's. The only text stands at the place 0.

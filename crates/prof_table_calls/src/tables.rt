@@ -1,7 +1,6 @@
 //! What is read of profiles, and the calls on a whole thread.
 ghost use Rattle.std.specs.Prelude.{◌≡◌, ◌<◌, length};
 
-use crate::profiles::{P, SHARED, SMALL, profile_of, thread_of};
 use prof_io::Steps;
 use prof_memory::SteadySource;
 use prof_read::{Form, read_profile};
@@ -9,6 +8,8 @@ use prof_tables::{
     FrameRow, FuncStrings, RawMarker, SampleRow, StackRow, Stacks, StacksBuilder, Strings, Thread,
     Unit,
 };
+use prof_worked::profiles::{P, SHARED, SMALL};
+use prof_worked::{profile_of, thread_of};
 use std::marker::Brand;
 use std::process::Abort;
 use std::sync::ledger::{Blank, Ledger};

@@ -22,4 +22,6 @@ pub mod RowByRow
 pub mod ShownRows
 pub mod FoundRows
 pub mod FinalRows
-pub mod Climbed
+pub mod Behind
+pub mod Entries
+pub mod Coming

@@ -18,7 +18,7 @@ pub key-long : (ks : List (List ℕ)) (rows : List Branch) (look : Option ℕ ×
 key-long ks rows look t q h e = snoc-not-nil _ _ (sym (t.keys q h) ∙ e)
 
 -- rows with the same parents, functions and depths
-IsTable-alike : (ks : List (List ℕ)) (rows rows' : List Branch) (look look' : Option ℕ × ℕ → Option ℕ) → length rows' ≡ length rows
+pub IsTable-alike : (ks : List (List ℕ)) (rows rows' : List Branch) (look look' : Option ℕ × ℕ → Option ℕ) → length rows' ≡ length rows
     → ((q : ℕ) → q < length rows → ((branch rows' q).parent ≡ (branch rows q).parent) × ((branch rows' q).func ≡ (branch rows q).func) × ((branch rows' q).depth ≡ (branch rows q).depth))
     → ((q : Option ℕ × ℕ) → look' q ≡ look q) → IsTable ks rows look → IsTable ks rows' look'
 IsTable-alike ks rows rows' look look' n same ask t = record {
@@ -38,14 +38,14 @@ IsTable-alike ks rows rows' look look' n same ask t = record {
     outside q h = subst (λ n. q < n) (sym n) h
 
 -- what a write to a row leaves, part by part
-at_set : {X : Type 0} (part : Branch → X) (rows : List Branch) (r : ℕ) (b : Branch) → r < length rows → part b ≡ part (branch rows r) → (q : ℕ) → part (branch (set rows r b) q) ≡ part (branch rows q)
+pub at_set : {X : Type 0} (part : Branch → X) (rows : List Branch) (r : ℕ) (b : Branch) → r < length rows → part b ≡ part (branch rows r) → (q : ℕ) → part (branch (set rows r b) q) ≡ part (branch rows q)
 at_set part rows r b lt e q =
     elim (eqb q r) as (λ x. eqb q r ≡ x → part (branch (set rows r b) q) ≡ part (branch rows q)) [
       | true ↦ λ k. subst (λ z. part (branch (set rows r b) z) ≡ part (branch rows z)) (sym (same_number q r k)) (ap part (get_or-set_same rows r b no_branch lt) ∙ e)
       | false ↦ λ k. ap part (get_or-set_other rows r q b no_branch (λ s. false≢true (sym k ∙ number_same q r s)))
     ] refl
 
-IsTable-set : (ks : List (List ℕ)) (rows : List Branch) (look : Option ℕ × ℕ → Option ℕ) (r : ℕ) (b : Branch) → r < length rows → b.parent ≡ (branch rows r).parent → b.func ≡ (branch rows r).func → b.depth ≡ (branch rows r).depth → IsTable ks rows look → IsTable ks (set rows r b) look
+pub IsTable-set : (ks : List (List ℕ)) (rows : List Branch) (look : Option ℕ × ℕ → Option ℕ) (r : ℕ) (b : Branch) → r < length rows → b.parent ≡ (branch rows r).parent → b.func ≡ (branch rows r).func → b.depth ≡ (branch rows r).depth → IsTable ks rows look → IsTable ks (set rows r b) look
 IsTable-set ks rows look r b lt p f d t =
     IsTable-alike ks rows (set rows r b) look look (length-set rows r b) (λ q h. (at_set (λ (b : Branch). b.parent) rows r b lt p q, at_set (λ (b : Branch). b.func) rows r b lt f q, at_set (λ (b : Branch). b.depth) rows r b lt d q)) (λ q. refl) t
 

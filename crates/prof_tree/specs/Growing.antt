@@ -79,9 +79,9 @@ pub record IsGrown (xs : List Weighed) (ks : List (List ℕ)) (rows : List Branc
   pub adds : Adds xs ks rows
   pub owns : Owns xs ks rows
 
--- there are paths of which the rows are the nodes
-abbrev pub AreGrown : List Branch → Type 0
-AreGrown rows = (xs : List Weighed) × (ks : List (List ℕ)) × (look : (Option ℕ × ℕ → Option ℕ)) × IsGrown xs ks rows look
+-- there are paths of which the rows are the nodes, with totals and categories
+abbrev pub AreSummed : List Branch → Type 0
+AreSummed rows = (xs : List Weighed) × (ks : List (List ℕ)) × (look : (Option ℕ × ℕ → Option ℕ)) × IsTable ks rows look × Adds xs ks rows
 
 -- of at most n paths with weights of 64 bits
 abbrev pub HasGrown : ℕ → List Branch → (Option ℕ × ℕ → Option ℕ) → Type 0

@@ -10,3 +10,4 @@ pub mod Building
 pub mod Weighing
 pub mod Sprouting
 pub mod Climbing
+pub mod Groups

@@ -1,7 +1,7 @@
 //! From the rows of a tree to its nodes.
 ghost use Rattle.std.specs.Prelude.{◌≡◌, ◌<◌, ◌≤◌, ℕ, List, length, map, IfOk, All, Option};
 ghost use Rattle.prof_tree.specs.Forest.{branch};
-ghost use Rattle.prof_tree.specs.Growing.{node_from, IsGrown, AreGrown};
+ghost use Rattle.prof_tree.specs.Growing.{node_from, IsTable, Adds, IsGrown, AreSummed};
 ghost use Rattle.prof_tree.specs.Nodes.{Weighed, nodes_of, at_roots};
 
 use crate::branch::Branch;
@@ -36,9 +36,11 @@ fn nodes_at(
 
 /// The list of nodes of a tree whose rows are there. `default` is the category of a node whose steps have several.
 pub fn finish(alloc: Global, rows: &[Branch], default: u32) -> Result<Vec<Node>, NoMemory>
-    requires { AreGrown rows.now }
+    requires { AreSummed rows.now }
     ensures nodes { IfOk result (λ nodes. (xs : List Weighed) (ks : List (List ℕ)) (look : Option ℕ × ℕ → Option ℕ)
         → IsGrown xs ks rows.now look → nodes.items ≡ nodes_of default xs) }
+    ensures upward { IfOk result (λ nodes. (xs : List Weighed) (ks : List (List ℕ)) (look : Option ℕ × ℕ → Option ℕ)
+        → IsTable ks rows.now look → Adds xs ks rows.now → map at_roots nodes.items ≡ map at_roots (nodes_of default xs)) }
     ensures count { IfOk result (λ nodes. length nodes.items ≤ length rows.now) }
 {
     // The rows of 2^32 nodes would take more than 400 GB.

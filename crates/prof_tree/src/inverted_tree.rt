@@ -15,8 +15,8 @@ use std::sync::ledger::Ledger;
 
 /// The inverted call tree that a view shows of the layers' base, out of the rows of the top, under the condition that the
 /// view's transforms are settled: that of the reversed final paths of the samples in every range. A tree with more than
-/// 4,194,304 nodes is refused, as soon as that many have come. It walks once up from each row on which samples stand, so
-/// it takes time in the rows, the samples and the lengths of those rows' paths.
+/// 4,194,304 nodes is refused, as soon as that many have come. It takes time in the rows, the samples, and the pairs of a node
+/// and a row to which samples come there, where each row counts once a node.
 pub fn inverted<L: Ledger>(
     alloc: Global,
     layers: &Layers,

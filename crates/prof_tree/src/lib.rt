@@ -7,6 +7,7 @@ mod builder;
 mod climbing;
 mod finding;
 mod finishing;
+mod groups;
 mod growing;
 mod inverted_tree;
 mod listing;

@@ -5,8 +5,8 @@ use Rattle.prof_io.specs.Outside.{seen}
 use Rattle.prof_tables.specs.Profiles.{ProfileTables}
 use Rattle.prof_tables.specs.Threads.{ThreadTables}
 use Rattle.prof_desk.specs.Output.{markers_replies, markers_reply, unopened}
-use Rattle.prof_desk.specs.Replies.{reply_bytes}
-use Rattle.prof_desk.specs.Telling.{line}
+use Rattle.prof_reply.specs.Replies.{reply_bytes}
+use Rattle.prof_reply.specs.Lines.{line}
 use Rattle.prof_writer.proofs.Outputs.{writes_as, writes_none}
 use Rattle.prof_desk.proofs.Held.{held_at, held_past, leaves_played, value}
 use Rattle.prof_desk.proofs.playing.write_markers.Goals as goal

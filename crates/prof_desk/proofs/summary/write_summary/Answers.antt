@@ -6,7 +6,7 @@ use Rattle.prof_read.specs.declared.read.Form.{Form}
 use Rattle.prof_tables.specs.Profiles.{ProfileTables}
 use Rattle.prof_tables.specs.Threads.{ThreadTables}
 use Rattle.prof_desk.specs.Summary.{form_text, thread_line}
-use Rattle.prof_desk.specs.Telling.{line}
+use Rattle.prof_reply.specs.Lines.{line}
 use Rattle.prof_desk.proofs.Held.{value}
 use Rattle.prof_writer.proofs.Outputs.{writes_then, writes_failed, writes_as}
 use Rattle.prof_desk.proofs.summary.write_summary.Goals as goal

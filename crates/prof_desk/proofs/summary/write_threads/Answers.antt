@@ -4,7 +4,7 @@ use Rattle.std.proofs.lemmas.List.{take_all}
 use Rattle.prof_desk.specs.Summary.{thread_line}
 use Rattle.prof_desk.proofs.Held.{length-numbered, numbered, numbered_at}
 use Rattle.prof_page.proofs.Pages.{gathers_on, gathers_ok, gathers_same, gathers_end, gathers_failed}
-use Rattle.prof_desk.proofs.Pieces.{flat_more, flat_rest}
+use Rattle.prof_reply.proofs.Pieces.{flat_more, flat_rest}
 use Rattle.prof_writer.proofs.Outputs.{writes_as}
 use Rattle.prof_desk.proofs.summary.write_threads.Goals as goal
 

@@ -2,11 +2,11 @@ use Rattle.std.proofs.Common.{refl, ◌<◌, ◌≤◌, length, sym, subst, ◌�
 use Rattle.prof_json.specs.Nest.{Occurs}
 use Rattle.prof_json.specs.declared.nesting.Phase.{Phase}
 use Rattle.prof_json.proofs.Enclosing.{outside_stays, occurs_behind, no_end, all_front, value_over}
-use Rattle.prof_json.proofs.Journeys.{moves_trans, moves_here}
-use Rattle.prof_json.proofs.Machines.{fails_behind}
-use Rattle.prof_json.proofs.Texts.{gains_none}
+use Rattle.prof_token.proofs.Journeys.{moves_trans, moves_here}
+use Rattle.prof_token.proofs.Machines.{fails_behind}
+use Rattle.prof_token.proofs.Texts.{gains_none}
 use Rattle.prof_json.proofs.Passing.{passed_none, passed_more, passed_all}
-use Rattle.prof_json.proofs.Owning.{owns_behind}
+use Rattle.prof_token.proofs.Owning.{owns_behind}
 use Rattle.prof_json.proofs.reading.skip_events.Goals as goal
 
 pub returns-in-Err-clause-moves : goal.returns-in-Err-clause-moves

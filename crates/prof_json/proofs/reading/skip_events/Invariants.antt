@@ -1,7 +1,7 @@
 use Rattle.std.proofs.Common.{◌≡◌, ◌≤◌, ◌<◌, ◌-◌, length, take}
 use Rattle.std.specs.Prelude.{None, ◌⊎◌}
 use Rattle.prof_io.specs.Outside.{seen}
-use Rattle.prof_json.specs.Moves.{Moves}
+use Rattle.prof_token.specs.Moves.{Moves}
 use Rattle.prof_json.specs.Nest.{Occurs}
 use Rattle.prof_json.specs.declared.nesting.Phase.TheVariants.{AfterName}
 use Rattle.prof_json.proofs.Passing.{Passed}

@@ -1,6 +1,6 @@
 use Rattle.std.proofs.Common.{◌∙◌, sym}
 use Rattle.prof_json.proofs.Enclosing.{ends, none_last}
-use Rattle.prof_json.proofs.Journeys.{if_ok_map}
+use Rattle.prof_token.proofs.Journeys.{if_ok_map}
 use Rattle.prof_json.proofs.steps.read_behind_value.Goals as goal
 
 pub returns-in-None-clause-ok : goal.returns-in-None-clause-ok

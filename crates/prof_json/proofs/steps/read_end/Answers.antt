@@ -1,8 +1,8 @@
 use Rattle.std.proofs.Common.{[], ◌∷◌, arith}
 use Rattle.prof_grammar.specs.Machine.{blank}
 use Rattle.prof_grammar.specs.Reading.{finished}
-use Rattle.prof_json.specs.Ahead.{IsNext}
-use Rattle.prof_json.proofs.Machines.{goes_trans, goes_wrong, stops_behind, stops_finished}
+use Rattle.prof_token.specs.Ahead.{IsNext}
+use Rattle.prof_token.proofs.Machines.{goes_trans, goes_wrong, stops_behind, stops_finished}
 use Rattle.prof_json.proofs.Standing as st
 use Rattle.prof_json.proofs.steps.read_end.Goals as goal
 

@@ -3,17 +3,17 @@ use Rattle.std.specs.Prelude.{None}
 use Rattle.std.proofs.lemmas.Result.{err_from_is_err_and}
 use Rattle.prof_grammar.specs.Grammar.{value}
 use Rattle.prof_grammar.specs.Machine.{Part, blank, symbol, word, a_colon}
-use Rattle.prof_json.specs.Ahead.{IsNext}
+use Rattle.prof_token.specs.Ahead.{IsNext}
 use Rattle.prof_json.specs.Nest as nest
 use Rattle.prof_json.specs.Parts.{behind}
-use Rattle.prof_json.proofs.Journeys.{moves_trans, moves_pass}
-use Rattle.prof_json.proofs.Machines.{goes_trans, goes_byte, goes_wrong}
+use Rattle.prof_token.proofs.Journeys.{moves_trans, moves_pass}
+use Rattle.prof_token.proofs.Machines.{goes_trans, goes_byte, goes_wrong}
 use Rattle.prof_json.proofs.Standing as st
-use Rattle.prof_json.proofs.Turns.{blank_over, word_cut, word_last, word_wrong}
-use Rattle.prof_json.proofs.Written.{writes_on, writes_fault}
+use Rattle.prof_token.proofs.Turns.{blank_over, word_cut, word_last, word_wrong}
+use Rattle.prof_token.proofs.Written.{writes_on, writes_fault}
 use Rattle.prof_json.proofs.Enclosing.{value_steps}
-use Rattle.prof_json.proofs.Journeys.{on_ok_map}
-use Rattle.prof_json.proofs.Owning.{owns_behind}
+use Rattle.prof_token.proofs.Journeys.{on_ok_map}
+use Rattle.prof_token.proofs.Owning.{owns_behind}
 use Rattle.prof_json.proofs.steps.read_member_value.Goals as goal
 
 pub returns-clause-moves : goal.returns-clause-moves

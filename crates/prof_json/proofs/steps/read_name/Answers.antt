@@ -4,11 +4,11 @@ use Rattle.std.proofs.lemmas.Result.{err_from_is_err_and}
 use Rattle.prof_grammar.specs.Machine.{as_name}
 use Rattle.prof_json.specs.Parts.{behind, parts_in}
 use Rattle.prof_json.specs.declared.nesting.Phase.TheVariants.{AfterName}
-use Rattle.prof_json.proofs.Journeys.{moves_trans, moves_pass, moves_here}
-use Rattle.prof_json.proofs.Machines.{goes_trans, goes_byte, goes_wrong}
+use Rattle.prof_token.proofs.Journeys.{moves_trans, moves_pass, moves_here}
+use Rattle.prof_token.proofs.Machines.{goes_trans, goes_byte, goes_wrong}
 use Rattle.prof_json.proofs.Standing as st
-use Rattle.prof_json.proofs.Written.{writes_on, writes_fault}
-use Rattle.prof_json.proofs.Owning.{owns_passed}
+use Rattle.prof_token.proofs.Written.{writes_on, writes_fault}
+use Rattle.prof_token.proofs.Owning.{owns_passed}
 use Rattle.prof_json.proofs.steps.read_name.Goals as goal
 
 pub returns-in_err-read_string-clause-moves : goal.returns-in_err-read_string-clause-moves

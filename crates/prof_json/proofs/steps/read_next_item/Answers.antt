@@ -5,11 +5,11 @@ use Rattle.prof_json.specs.Parts.{behind}
 use Rattle.prof_json.specs.declared.answer.Event.TheVariants.{Number}
 use Rattle.prof_json.proofs.Enclosing.{begins_number, value_steps, takes_item}
 use Rattle.prof_json.proofs.Items.{adds_plain, goes_item}
-use Rattle.prof_json.proofs.Journeys.{moves_here, moves_pass}
+use Rattle.prof_token.proofs.Journeys.{moves_here, moves_pass}
 use Rattle.prof_json.proofs.Standing as st
-use Rattle.prof_json.proofs.Texts.{gains_on}
-use Rattle.prof_json.proofs.Written.{writes_goes}
-use Rattle.prof_json.proofs.Owning.{plain_own, more_own, owns_run}
+use Rattle.prof_token.proofs.Texts.{gains_on}
+use Rattle.prof_token.proofs.Written.{writes_goes}
+use Rattle.prof_token.proofs.Owning.{plain_own, more_own, owns_run}
 use Rattle.prof_json.proofs.steps.read_next_item.Goals as goal
 
 pub returns-then-branch-clause-moves : goal.returns-then-branch-clause-moves

@@ -3,18 +3,18 @@ use Rattle.std.specs.Prelude.{None, Ok}
 use Rattle.std.proofs.lemmas.Result.{err_from_is_err_and}
 use Rattle.prof_grammar.specs.Grammar.{more_members, member}
 use Rattle.prof_grammar.specs.Machine.{Part, blank, symbol}
-use Rattle.prof_json.specs.Ahead.{IsNext}
+use Rattle.prof_token.specs.Ahead.{IsNext}
 use Rattle.prof_json.specs.Gives.{told_by}
 use Rattle.prof_json.specs.Parts.{behind}
 use Rattle.prof_json.specs.declared.answer.Event.TheVariants.{ObjectEnd}
-use Rattle.prof_json.proofs.Journeys.{moves_trans, moves_pass}
-use Rattle.prof_json.proofs.Machines.{goes_trans, goes_byte, goes_wrong}
+use Rattle.prof_token.proofs.Journeys.{moves_trans, moves_pass}
+use Rattle.prof_token.proofs.Machines.{goes_trans, goes_byte, goes_wrong}
 use Rattle.prof_json.proofs.Standing as st
-use Rattle.prof_json.proofs.Turns.{blank_over, value_cut}
-use Rattle.prof_json.proofs.Written.{writes_goes, writes_on, writes_fault}
+use Rattle.prof_token.proofs.Turns.{blank_over, value_cut}
+use Rattle.prof_token.proofs.Written.{writes_goes, writes_on, writes_fault}
 use Rattle.prof_json.proofs.Enclosing.{steps_last_member, next_names}
-use Rattle.prof_json.proofs.Journeys.{on_ok_map}
-use Rattle.prof_json.proofs.Owning.{owns_byte, owns_behind}
+use Rattle.prof_token.proofs.Journeys.{on_ok_map}
+use Rattle.prof_token.proofs.Owning.{owns_byte, owns_behind}
 use Rattle.prof_json.proofs.steps.read_next_member.Goals as goal
 
 pub returns-then-first-eq125-clause-moves : goal.returns-then-first-eq125-clause-moves

@@ -3,12 +3,12 @@ use Rattle.prof_grammar.specs.Grammar.{value}
 use Rattle.prof_grammar.specs.Machine.{blank, symbol}
 use Rattle.prof_json.specs.Nest as nest
 use Rattle.prof_json.specs.Parts.{behind}
-use Rattle.prof_json.proofs.Journeys.{moves_trans}
+use Rattle.prof_token.proofs.Journeys.{moves_trans}
 use Rattle.prof_json.proofs.Standing as st
-use Rattle.prof_json.proofs.Written.{writes_on}
+use Rattle.prof_token.proofs.Written.{writes_on}
 use Rattle.prof_json.proofs.Enclosing.{value_steps}
-use Rattle.prof_json.proofs.Journeys.{on_ok_map}
-use Rattle.prof_json.proofs.Owning.{owns_behind}
+use Rattle.prof_token.proofs.Journeys.{on_ok_map}
+use Rattle.prof_token.proofs.Owning.{owns_behind}
 use Rattle.prof_json.proofs.steps.read_start.Goals as goal
 
 pub returns-clause-moves : goal.returns-clause-moves

@@ -3,12 +3,12 @@ use Rattle.std.proofs.lemmas.Result.{err_from_is_err_and}
 use Rattle.prof_grammar.specs.Grammar.{value}
 use Rattle.prof_grammar.specs.Machine.{Part, blank, symbol}
 use Rattle.prof_json.specs.Parts.{behind}
-use Rattle.prof_json.proofs.Journeys.{moves_trans}
+use Rattle.prof_token.proofs.Journeys.{moves_trans}
 use Rattle.prof_json.proofs.Standing as st
-use Rattle.prof_json.proofs.Turns.{blank_over, value_cut}
-use Rattle.prof_json.proofs.Written.{writes_on, writes_fault}
-use Rattle.prof_json.proofs.Journeys.{on_ok_map}
-use Rattle.prof_json.proofs.Owning.{owns_behind}
+use Rattle.prof_token.proofs.Turns.{blank_over, value_cut}
+use Rattle.prof_token.proofs.Written.{writes_on, writes_fault}
+use Rattle.prof_token.proofs.Journeys.{on_ok_map}
+use Rattle.prof_token.proofs.Owning.{owns_behind}
 use Rattle.prof_json.proofs.steps.read_value.Goals as goal
 
 pub returns-clause-moves : goal.returns-clause-moves

@@ -2,21 +2,22 @@ use Rattle.std.proofs.Common.{◌≡◌, ◌≢◌, List, [], ◌∷◌, ◌++�
 use Rattle.std.specs.Prelude.{None, ◌==◌, ◌||◌, codes}
 use Rattle.std.proofs.lemmas.Grind.{common_steps}
 use Rattle.prof_grammar.specs.Machine.{class, step, a_true, a_false, a_null, as_value}
-use Rattle.prof_json.specs.Ahead.{IsNext}
-use Rattle.prof_json.specs.Bytes.{is_digit}
+use Rattle.prof_token.specs.Ahead.{IsNext}
+use Rattle.prof_token.specs.Bytes.{is_digit}
 use Rattle.prof_json.specs.Gives.{told_by, parts_behind}
 use Rattle.prof_json.specs.Parts.{behind}
-use Rattle.prof_json.proofs.Machines.{goes_trans, goes_byte, goes_wrong, goes_over}
+use Rattle.prof_token.proofs.Machines.{goes_trans, goes_byte, goes_wrong, goes_over}
 use Rattle.prof_json.proofs.Standing as st
-use Rattle.prof_json.proofs.Written.{writes_goes, writes_on, writes_fault, unopened}
+use Rattle.prof_token.proofs.Written.{writes_goes, writes_on, writes_fault}
+use Rattle.prof_json.proofs.Closing.{unopened}
 use Rattle.std.proofs.lemmas.Result.{err_from_is_err_and}
 use Rattle.prof_json.proofs.Enclosing.{begins_array, begins_object, begins_str, begins_number, begins_true, begins_false, begins_null, ahead_by}
-use Rattle.prof_json.proofs.Journeys.{moves_trans, moves_pass, moves_here}
+use Rattle.prof_token.proofs.Journeys.{moves_trans, moves_pass, moves_here}
 use Rattle.std.specs.Prelude.{Ok}
 use Rattle.prof_json.specs.declared.nesting.Bracket.{Bracket}
 use Rattle.prof_json.specs.declared.nesting.Bracket.TheVariants.{Array, Object}
 use Rattle.prof_json.specs.declared.answer.Event.TheVariants.{ArrayStart, ObjectStart, Number, True, False, Null}
-use Rattle.prof_json.proofs.Owning.{HasOwn, owns_byte, owns_passed, owns_word}
+use Rattle.prof_token.proofs.Owning.{HasOwn, owns_byte, owns_passed, owns_word}
 use Rattle.prof_json.proofs.value.begin_value.Goals as goal
 
 pub returns-in_err-read_string-in-34-clause-moves : goal.returns-in_err-read_string-in-34-clause-moves

@@ -2,11 +2,12 @@ use Rattle.std.proofs.Common.{◌≡◌, ◌∷◌, [], true, false, refl, sym, 
 use Rattle.std.proofs.lemmas.Result.{err_from_is_err_and}
 use Rattle.std.specs.Prelude.{None}
 use Rattle.prof_grammar.specs.Event.{number}
-use Rattle.prof_json.specs.Stages.{may_come}
+use Rattle.prof_token.specs.Stages.{may_come}
 use Rattle.prof_json.specs.Parts.{behind}
-use Rattle.prof_json.proofs.Machines.{goes_trans}
+use Rattle.prof_token.proofs.Machines.{goes_trans}
 use Rattle.prof_json.proofs.Standing.{behind_is, behind_few}
-use Rattle.prof_json.proofs.Written.{writes_goes, writes_fault, number_told, number_refused}
+use Rattle.prof_token.proofs.Written.{writes_goes, writes_fault}
+use Rattle.prof_json.proofs.Closing.{number_told, number_refused}
 use Rattle.prof_json.proofs.value.read_whole_number.Goals as goal
 
 pub returns-in_err-behind-clause-exact : goal.returns-in_err-behind-clause-exact

@@ -1,17 +1,17 @@
-use Rattle.std.proofs.Common.{rules, ◌≡◌, ◌+◌, ◌≤◌, ◌++◌, ◌∷◌, [], length, take, to_z, of_z, Result, Err, IsErrAnd, sym, ap, subst, arith}
-use Rattle.std.specs.Int.{w128}
+use Rattle.std.proofs.Common.{◌≡◌, ◌+◌, ◌≤◌, ◌<◌, [], List, length, None, Result, Err, IsErrAnd, refl, sym, ap, ◌∙◌, subst, arith}
 use Rattle.std.specs.HashMap.{get}
+use Rattle.std.proofs.lemmas.List.{length-replicate}
 use Rattle.std.proofs.lemmas.Result.{err_from_is_err_and}
 use Rattle.prof_tree.specs.declared.node.InvertRefusal.TheVariants.{TooManyNodes}
-use Rattle.prof_tree.specs.Climbing.{IsLight, AreTooMany}
-use Rattle.prof_tree.specs.Growing.{IsGrown, pair_eq}
-use Rattle.prof_tree.specs.Nodes.{node_limit}
-use Rattle.prof_tree.specs.Weighing.{back_path, held}
-use Rattle.prof_tree.proofs.Climbed.{light_same, next_none, next_some, next_light, held_among}
-use Rattle.prof_tree.proofs.Sampled.{same128}
-use Rattle.prof_tree.proofs.Weights.{IsGrown-none}
+use Rattle.prof_tree.specs.Climbing.{AreAbove, AreShort}
+use Rattle.prof_tree.specs.Groups.{AreEntries}
+use Rattle.prof_tree.specs.Growing.{pair_eq}
+use Rattle.prof_tree.specs.Weighing.{AreAlike, back_path, held}
+use Rattle.prof_tree.proofs.Alike.{alike_same}
+use Rattle.prof_tree.proofs.Coming.{climbed_all}
+use Rattle.prof_tree.proofs.Entries.{short_held}
+use Rattle.prof_tree.proofs.Whole.{written}
 use Rattle.prof_tree.proofs.climbing.grown_upward.Goals as goal
-use Rattle.prof_tree.proofs.climbing.grown_upward.Goals.{in-Some+in_ok-climb, in_default}
 
 -- the refusal that is passed on
 same_refusal : {T U E : Type 0} (r : Result T E) (x y : E) → IsErrAnd r (λ z. z ≡ x) → r ≡ Err y → let passed : Result U E = Err x in passed ≡ Err y
@@ -21,69 +21,75 @@ same_refusal r x y h e =
     let same : p.0 ≡ x = p.2 in
     cc
 
-pub loop-place-init : goal.loop-place-init
-loop-place-init c = record {
-  few = (let e = ap length c.new-rows.ensures.items in omega arith);
-  grown = ([], subst (λ z. IsGrown [] [] z (get pair_eq c.new-index.result)) (sym c.new-rows.ensures.items) (IsGrown-none _ (λ q. search (rules, c.new-index.ensures.empty))));
-}
+pub put_all-requires-clause-coming : goal.put_all-requires-clause-coming
+put_all-requires-clause-coming c =
+    let stacks = c.args.stacks.now in
+    let zs = held (back_path stacks) 0 c.args.own.now in
+    let leaves = c.in_ok-leaves.leaves.items in
+    let above : AreAbove stacks zs None [] leaves = record {
+      entries = subst (λ n. AreEntries n leaves) c.requires.len c.in_ok-leaves.ensures.entries;
+      paths = subst (AreAlike zs) (sym (c.in_ok-leaves.ensures.paths (back_path stacks))) (alike_same zs);
+    } in
+    (zs, 0, [], c.new-climb.ensures.coming stacks zs, subst (AreAbove stacks zs None []) (sym c.deref.ensures.value) above, refl)
 
-pub climb-requires-clause-room : goal.climb-requires-clause-room
-climb-requires-clause-room c =
+pub returns-in_err-put_all-clause-many : goal.returns-in_err-put_all-clause-many
+returns-in_err-put_all-clause-many c = λ limit e.
+    let stacks = c.args.stacks.now in
+    let zs = held (back_path stacks) 0 c.args.own.now in
+    let leaves = c.in_ok-leaves.leaves.items in
+    let above : AreAbove stacks zs None [] leaves = record {
+      entries = subst (λ n. AreEntries n leaves) c.requires.len c.in_ok-leaves.ensures.entries;
+      paths = subst (AreAlike zs) (sym (c.in_ok-leaves.ensures.paths (back_path stacks))) (alike_same zs);
+    } in
+    let h = c.in_err-put_all.ensures.many limit (same_refusal c.from_residual-in_err-put_all.result _ (TooManyNodes limit) c.from_residual-in_err-put_all.ensures.1 e) in
+    (h.0, h.1 zs 0 [] (c.new-climb.ensures.coming stacks zs) (subst (AreAbove stacks zs None []) (sym c.deref.ensures.value) above) refl)
+
+pub loop-node-init : goal.loop-node-init
+loop-node-init c =
+    let stacks = c.args.stacks.now in
+    let zs = held (back_path stacks) 0 c.args.own.now in
+    let leaves = c.in_ok-leaves.leaves.items in
+    let above : AreAbove stacks zs None [] leaves = record {
+      entries = subst (λ n. AreEntries n leaves) c.requires.len c.in_ok-leaves.ensures.entries;
+      paths = subst (AreAlike zs) (sym (c.in_ok-leaves.ensures.paths (back_path stacks))) (alike_same zs);
+    } in
+    record {
+      seats = ap length c.in_ok-seats.ensures ∙ length-replicate _ _;
+      rows = c.in_ok-put_all.ensures.within;
+      climbed = c.in_ok-put_all.ensures.climbed zs 0 [] (c.new-climb.ensures.coming stacks zs) (subst (AreAbove stacks zs None []) (sym c.deref.ensures.value) above) refl;
+    }
+
+pub widen-requires-clause-climbed : goal.widen-requires-clause-climbed
+widen-requires-clause-climbed c =
     let stacks = c.args.stacks.now in
     let own = c.args.own.now in
-    let n = c.loop-place.place in
-    let w = c.in-Some.weight in
-    let xs = held (back_path stacks) 0 (take n own) in
-    let light : IsLight xs w = next_light stacks own n c.loop-place-test.true w c.in-Some.is c.requires.light in
-    let same : to_z w128 (of_z w128 w) ≡ w = same128 w (light_same xs w light) in
-    (xs, c.loop-place.invariant.grown.0, c.loop-place.invariant.grown.1, subst (IsLight xs) (sym same) light)
+    let k = c.loop-node.invariant.climbed in
+    (held (back_path stacks) 0 own, k.0, λ p h. (let s = short_held stacks 0 own p h in omega (arith, s, c.requires.few)), k.1)
 
-pub returns-in_err-climb-clause-many : goal.returns-in_err-climb-clause-many
-returns-in_err-climb-clause-many c = λ limit e.
+pub returns-in_err-widen-clause-many : goal.returns-in_err-widen-clause-many
+returns-in_err-widen-clause-many c = λ limit e.
     let stacks = c.args.stacks.now in
     let own = c.args.own.now in
-    let n = c.loop-place.place in
-    let w = c.in-Some.weight in
-    let xs = held (back_path stacks) 0 (take n own) in
-    let light : IsLight xs w = next_light stacks own n c.loop-place-test.true w c.in-Some.is c.requires.light in
-    let same : to_z w128 (of_z w128 w) ≡ w = same128 w (light_same xs w light) in
-    let h = c.in_err-climb.ensures.many limit (same_refusal c.from_residual.result _ (TooManyNodes limit) c.from_residual.ensures.1 e) in
-    let many = h.1 xs c.loop-place.invariant.grown.0 c.loop-place.invariant.grown.1 in
-    let all : AreTooMany (held (back_path stacks) 0 (take (n + 1) own)) =
-    subst AreTooMany (next_some stacks own n c.loop-place-test.true w c.in-Some.is)
-    (subst (λ z. AreTooMany (xs ++ record { steps = back_path stacks n; weight = z } ∷ [])) same many) in
-    (h.0, λ zs more. all zs (λ p some k. more p some (held_among (back_path stacks) 0 (n + 1) own p k)))
+    let k = c.loop-node.invariant.climbed in
+    let h = c.in_err-widen.ensures.many limit (same_refusal c.from_residual-in_err-widen.result _ (TooManyNodes limit) c.from_residual-in_err-widen.ensures.1 e) in
+    (h.0, h.1 (held (back_path stacks) 0 own) k.0 (λ p h. (let s = short_held stacks 0 own p h in omega (arith, s, c.requires.few))) k.1)
 
-pub loop-place-preserved : goal.loop-place-preserved
-loop-place-preserved c =
+pub loop-node-preserved : goal.loop-node-preserved
+loop-node-preserved c =
     let stacks = c.args.stacks.now in
     let own = c.args.own.now in
-    let n = c.loop-place.place in
-    let xs = held (back_path stacks) 0 (take n own) in
-    let g = c.loop-place.invariant.grown in
-    elim c.match-weight.branch [
-      | in-Some+in_ok-climb w ↦
-          let v = w.in-Some.weight in
-          let light : IsLight xs v = next_light stacks own n c.loop-place-test.true v w.in-Some.is c.requires.light in
-          let same : to_z w128 (of_z w128 v) ≡ v = same128 v (light_same xs v light) in
-          let more = w.in_ok-climb.ensures.grown xs g.0 g.1 in
-          record {
-            few = subst (λ r. length r.items ≤ node_limit) (sym w.rows-is) w.in_ok-climb.ensures.within;
-            grown = (
-              more.0,
-              subst (λ r. IsGrown (held (back_path stacks) 0 (take (n + 1) own)) more.0 r.items (get pair_eq c.match-weight.index)) (sym w.rows-is)
-                  (subst (λ i. IsGrown (held (back_path stacks) 0 (take (n + 1) own)) more.0 w.climb.new.rows.items (get pair_eq i)) (sym w.index-is)
-                  (subst (λ z. IsGrown z more.0 w.climb.new.rows.items (get pair_eq w.climb.new.index)) (next_some stacks own n c.loop-place-test.true v w.in-Some.is)
-                  (subst (λ z. IsGrown (xs ++ record { steps = back_path stacks n; weight = z } ∷ []) more.0 w.climb.new.rows.items (get pair_eq w.climb.new.index)) same more.1))),
-            );
-          }
-      | in_default w ↦ record {
-        few = subst (λ r. length r.items ≤ node_limit) (sym w.rows-is) c.loop-place.invariant.few;
-        grown = (
-          g.0,
-          subst (λ r. IsGrown (held (back_path stacks) 0 (take (n + 1) own)) g.0 r.items (get pair_eq c.match-weight.index)) (sym w.rows-is)
-              (subst (λ i. IsGrown (held (back_path stacks) 0 (take (n + 1) own)) g.0 c.loop-place.rows.items (get pair_eq i)) (sym w.index-is)
-              (subst (λ z. IsGrown z g.0 c.loop-place.rows.items (get pair_eq c.loop-place.index)) (next_none stacks own n c.loop-place-test.true w.in_default.is) g.1)),
-        );
-      }
-    ]
+    let k = c.loop-node.invariant.climbed in
+    let same : length c.widen.new.seats ≡ length c.loop-node.seats.items = c.widen.auto.seats ∙ ap length c.deref_mut.ensures.value in
+    record {
+      seats = ap length (written c.loop-node.seats.len c.widen.new.seats c.loop-node.seats.items (omega (arith, c.loop-node.seats.ok.0)) same) ∙ same ∙ c.loop-node.invariant.seats;
+      rows = c.in_ok-widen.ensures.within;
+      climbed = c.in_ok-widen.ensures.climbed (held (back_path stacks) 0 own) k.0 (λ p h. (let s = short_held stacks 0 own p h in omega (arith, s, c.requires.few))) k.1;
+    }
+
+pub returns-clause-grown : goal.returns-clause-grown
+returns-clause-grown c =
+    let stacks = c.args.stacks.now in
+    let k = c.loop-node.invariant.climbed in
+    let s = c.loop-node.climb in
+    let all : length s.rows.items ≤ c.loop-node.node = omega (arith, c.loop-node-test.false, c.len.ensures, s.rows.ok.0) in
+    (k.0, get pair_eq s.index, k.1.table, climbed_all stacks (held (back_path stacks) 0 c.args.own.now) c.loop-node.node k.0 s.rows.items (get pair_eq s.index) s.groups.items k.1 all)

@@ -2,13 +2,14 @@ use Rattle.std.proofs.Common.{◌≡◌, ◌+ℤ◌, length, map, to_z, of_z, sy
 use Rattle.std.specs.Int.{w128}
 use Rattle.std.proofs.lemmas.Int.{ints, to_z-of_z}
 use Rattle.prof_tables.specs.Threads.{ThreadTables}
-use Rattle.prof_tree.specs.Growing.{IsGrown}
+use Rattle.prof_tree.specs.Growing.{Adds, IsTable}
 use Rattle.prof_tree.specs.Nodes.{reversed, nodes_of, keys_of, at_roots, inverted_of, root_total}
 use Rattle.prof_tree.specs.Views.{finals}
 use Rattle.prof_tree.specs.Weighing.{back_path, held}
-use Rattle.prof_tree.proofs.Alike.{grown_alike}
+use Rattle.prof_tree.proofs.Alike.{Adds-alike}
 use Rattle.prof_tree.proofs.Law.{keys_of-law}
 use Rattle.prof_tree.proofs.Balance.{inverted_balance}
+use Rattle.prof_tree.proofs.Turns.{key-long}
 use Rattle.prof_tree.proofs.Whole.{written, length-at_roots, map-at_roots}
 use Rattle.prof_tree.proofs.inverted_tree.inverted.Goals as goal
 
@@ -20,16 +21,18 @@ listed_nodes g c =
     let stacks = c.in_ok-weighted.weighted.rows.items in
     let own = c.in_ok-weighted.weighted.weights.by_row.items in
     let r = c.in_ok-rows.ensures.grown in
-    let by_rows : IsGrown (held (back_path stacks) 0 own) r.0 c.in_ok-rows.rows.items r.1 =
-    subst (λ s. IsGrown (held (back_path s) 0 own) r.0 c.in_ok-rows.rows.items r.1) c.deref.ensures.value
-    (subst (λ o. IsGrown (held (back_path c.deref.result.now) 0 o) r.0 c.in_ok-rows.rows.items r.1) c.deref-2.ensures.value r.2) in
-    let all : IsGrown xs r.0 c.in_ok-rows.rows.items r.1 = grown_alike (held (back_path stacks) 0 own) xs r.0 c.in_ok-rows.rows.items r.1 c.in_ok-weighted.ensures.weighs.backward by_rows in
+    let rows = c.in_ok-rows.rows.items in
+    let by_rows : Adds (held (back_path stacks) 0 own) r.0 rows =
+    subst (λ s. Adds (held (back_path s) 0 own) r.0 rows) c.deref.ensures.value
+    (subst (λ o. Adds (held (back_path c.deref.result.now) 0 o) r.0 rows) c.deref-2.ensures.value r.3) in
+    let all : Adds xs r.0 rows = Adds-alike (held (back_path stacks) 0 own) xs r.0 rows c.in_ok-weighted.ensures.weighs.backward (key-long r.0 rows r.1 r.2) by_rows in
     let default = c.default_category.ensures.value ∙ ap (λ (b : ThreadTables). b.shared.default) c.base.ensures in
-    let nodes : c.in_ok-nodes.nodes.items ≡ nodes_of l.base.shared.default xs =
-    c.in_ok-nodes.ensures.nodes xs r.0 r.1 (subst (λ rows. IsGrown xs r.0 rows r.1) (sym c.deref-3.ensures.value) all) ∙ ap (λ d. nodes_of d xs) default in
+    let nodes : map at_roots c.in_ok-nodes.nodes.items ≡ map at_roots (nodes_of l.base.shared.default xs) =
+    c.in_ok-nodes.ensures.upward xs r.0 r.1 (subst (λ rows. IsTable r.0 rows r.1) (sym c.deref-3.ensures.value) r.2) (subst (Adds xs r.0) (sym c.deref-3.ensures.value) all)
+    ∙ ap (λ d. map at_roots (nodes_of d xs)) default in
     let roots : c.weigh_roots.new.nodes ≡ map at_roots c.in_ok-nodes.nodes.items = c.weigh_roots.ensures ∙ ap (map at_roots) c.deref_mut.ensures.value in
     written c.in_ok-nodes.nodes.len c.weigh_roots.new.nodes c.in_ok-nodes.nodes.items (omega (arith, c.in_ok-nodes.nodes.ok.0)) (ap length roots ∙ length-at_roots c.in_ok-nodes.nodes.items)
-    ∙ roots ∙ ap (map at_roots) nodes
+    ∙ roots ∙ nodes
 
 pub returns-clause-nodes : goal.returns-clause-nodes
 returns-clause-nodes g c = listed_nodes g c

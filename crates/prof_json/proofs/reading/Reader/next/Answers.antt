@@ -1,12 +1,12 @@
 use Rattle.std.proofs.Common.{ap, sym, subst, refl}
-use Rattle.prof_json.specs.Kept.{Kept}
+use Rattle.prof_token.specs.Kept.{Kept}
 use Rattle.prof_json.specs.Nest.{Occurs}
 use Rattle.std.specs.Prelude.{Some, None}
 use Rattle.std.specs.Option.{option_to_list}
 use Rattle.prof_json.specs.Parts.{parts_in, behind}
 use Rattle.prof_json.specs.Position.{Position, last_of}
 use Rattle.prof_json.specs.Tells.{EndsBy, Tells}
-use Rattle.prof_json.proofs.Texts.{gains_none}
+use Rattle.prof_token.proofs.Texts.{gains_none}
 use Rattle.prof_json.proofs.Fresh.{kept_all, event_told}
 use Rattle.prof_json.specs.declared.nesting.Phase.{Phase}
 use Rattle.prof_json.proofs.Enclosing.{occurs_behind}

@@ -1,7 +1,7 @@
 use Rattle.std.proofs.Common.{ℕ, List, ap, sym, subst, ◌∙◌}
 use Rattle.std.specs.Prelude.{Some}
 use Rattle.prof_grammar.specs.Event.{number}
-use Rattle.prof_json.specs.Numbers.{IsNumeral}
+use Rattle.prof_token.specs.Numbers.{IsNumeral}
 use Rattle.prof_json.specs.Position.{Position}
 use Rattle.prof_json.proofs.Positions.{number_is}
 use Rattle.prof_json.proofs.reading.Reader.number_text.Goals as goal

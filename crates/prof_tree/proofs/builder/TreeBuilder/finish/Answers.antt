@@ -5,13 +5,13 @@ use Rattle.std.specs.HashMap.{get}
 use Rattle.prof_tree.specs.Nodes.{nodes_of, keys_of, root_total, own_total}
 use Rattle.prof_tree.proofs.Law.{keys_of-law}
 use Rattle.prof_tree.proofs.Balance.{root_balance, own_balance}
-use Rattle.prof_tree.specs.Growing.{IsGrown, AreGrown, pair_eq}
+use Rattle.prof_tree.specs.Growing.{IsGrown, AreSummed, pair_eq}
 use Rattle.prof_tree.proofs.builder.TreeBuilder.finish.Goals as goal
 
 pub finish-requires : goal.finish-requires
 finish-requires c =
     let h = c.requires in
-    subst AreGrown (sym c.deref.ensures.value) (h.0, h.1.keys, get pair_eq c.args.self.index, h.1.grown)
+    subst AreSummed (sym c.deref.ensures.value) (h.0, h.1.keys, get pair_eq c.args.self.index, h.1.grown.table, h.1.grown.adds)
 
 listed_nodes : goal.returns-clause-nodes
 listed_nodes c = λ xs h.

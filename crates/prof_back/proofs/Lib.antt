@@ -1,0 +1,7 @@
+pub mod Told
+pub mod Cells
+pub mod Columns
+pub mod Categories
+pub mod Samples
+pub mod Frames
+pub mod Written

@@ -1,0 +1,7 @@
+//! Scripts: lines of requests, answered one after another.
+#![tactic(auto)]
+
+mod lines;
+mod playing;
+
+pub use playing::{PlayEnd, play_script};

@@ -1,0 +1,10 @@
+pub mod Windows
+pub mod Journeys
+pub mod Runs
+pub mod Owning
+pub mod Utf8
+pub mod Texts
+pub mod Machines
+pub mod Turns
+pub mod Written
+pub mod Digits

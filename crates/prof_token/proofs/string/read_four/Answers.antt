@@ -1,0 +1,106 @@
+use Rattle.std.proofs.Common.{◌≡◌, ℕ, List, [], ◌∷◌, ◌++◌, refl, sym, subst, ◌∙◌, arith, ◌≤◌}
+use Rattle.std.specs.Prelude.{None}
+use Rattle.std.proofs.lemmas.Result.{err_from_is_err_and}
+use Rattle.prof_grammar.specs.Machine.{chars, nothing, settled, one_more, two_more, tail_low, tail_high, tail_next}
+use Rattle.prof_token.specs.Bytes.{second_low, second_high}
+use Rattle.prof_token.specs.Writes.{silent}
+use Rattle.prof_token.proofs.Journeys.{moves_trans, moves_pass, moves_here, moves_push, on_ok, on_ok_map}
+use Rattle.prof_token.proofs.Texts.{gains_on}
+use Rattle.prof_token.proofs.Machines.{goes_trans, goes_byte}
+use Rattle.prof_token.proofs.Turns as t
+use Rattle.prof_token.proofs.Written.{writes_fault, writes_if, goes_next}
+use Rattle.prof_token.proofs.Utf8.{four_by_second}
+use Rattle.prof_token.proofs.string.read_four.Goals as goal
+
+pub returns-in_err-second-clause-moves : goal.returns-in_err-second-clause-moves
+returns-in_err-second-clause-moves g c =
+    let r = c.from_residual in
+    let p = err_from_is_err_and r.result r.ensures.1 in
+    rw (p.1, p.2) (moves_trans (moves_pass (moves_here _ _) c.pass.ensures) c.in_err-second.ensures.moves)
+
+pub returns-in_err-third-clause-moves : goal.returns-in_err-third-clause-moves
+returns-in_err-third-clause-moves g c =
+    let r = c.from_residual-in_err-third in
+    let p = err_from_is_err_and r.result r.ensures.1 in
+    rw (p.1, p.2) (moves_trans (moves_trans (moves_pass (moves_here _ _) c.pass.ensures) c.in_ok-second.ensures.moves) c.in_err-third.ensures.moves)
+
+pub returns-in_err-fourth-clause-moves : goal.returns-in_err-fourth-clause-moves
+returns-in_err-fourth-clause-moves g c =
+    let r = c.from_residual-in_err-fourth in
+    let p = err_from_is_err_and r.result r.ensures.1 in
+    rw (p.1, p.2) (moves_trans (moves_trans (moves_trans (moves_pass (moves_here _ _) c.pass.ensures) c.in_ok-second.ensures.moves) c.in_ok-third.ensures.moves) c.in_err-fourth.ensures.moves)
+
+pub push-requires : goal.push-requires
+push-requires g c =
+    let l = c.in_ok-second.ensures.between.0 in
+    let h = c.in_ok-second.ensures.between.1 in
+    let low : second_low c.args.first ≤ c.in_ok-second.second = subst (λ (n : ℕ). n ≤ c.in_ok-second.second) c.second_low.ensures l in
+    let high : c.in_ok-second.second ≤ second_high c.args.first = subst (λ (n : ℕ). c.in_ok-second.second ≤ n) c.second_high.ensures h in
+    four_by_second c.args.first c.in_ok-second.second c.in_ok-third.third c.in_ok-fourth.fourth c.requires.range.0 c.requires.range.1 low high
+    c.in_ok-third.ensures.between.0 c.in_ok-third.ensures.between.1 c.in_ok-fourth.ensures.between.0 c.in_ok-fourth.ensures.between.1
+
+pub returns-clause-moves : goal.returns-clause-moves
+returns-clause-moves g c =
+    moves_push c.push.result c.push.ensures.err
+    (moves_trans (moves_trans (moves_trans (moves_pass (moves_here _ _) c.pass.ensures) c.in_ok-second.ensures.moves) c.in_ok-third.ensures.moves) c.in_ok-fourth.ensures.moves)
+
+pub returns-clause-further : goal.returns-clause-further
+returns-clause-further g c =
+    let p = c.pass.ensures.place in
+    let q = c.in_ok-second.ensures.moves.on in
+    let r = c.in_ok-third.ensures.moves.on in
+    let s = c.in_ok-fourth.ensures.moves.on in
+    on_ok c.push.result (omega arith)
+
+pub returns-in_err-second-clause-exact : goal.returns-in_err-second-clause-exact
+returns-in_err-second-clause-exact g c = λ begun k s p ps h d.
+    let r = c.from_residual in
+    let q = err_from_is_err_and r.result r.ensures.1 in
+    let first = c.args.first in
+    let x = t.four_tail first in
+    let f = t.follows_four first c.requires.range.0 c.requires.range.1 in
+    let began = goes_byte first c.requires.next c.pass.ensures (t.lead_on k s p ps first x f.leads) d in
+    let low : tail_low x ≡ c.second_low.result = f.low ∙ sym c.second_low.ensures in
+    let high : tail_high x ≡ c.second_high.result = f.high ∙ sym c.second_high.ensures in
+    rw (q.1, q.2) (writes_fault (goes_trans began (c.in_err-second.ensures.exact k s p x (first ∷ []) ps low high d)))
+
+pub returns-in_err-third-clause-exact : goal.returns-in_err-third-clause-exact
+returns-in_err-third-clause-exact g c = λ begun k s p ps h d.
+    let r = c.from_residual-in_err-third in
+    let q = err_from_is_err_and r.result r.ensures.1 in
+    let first = c.args.first in
+    let x = t.four_tail first in
+    let f = t.follows_four first c.requires.range.0 c.requires.range.1 in
+    let began = goes_byte first c.requires.next c.pass.ensures (t.lead_on k s p ps first x f.leads) d in
+    let low : tail_low x ≡ c.second_low.result = f.low ∙ sym c.second_low.ensures in
+    let high : tail_high x ≡ c.second_high.result = f.high ∙ sym c.second_high.ensures in
+    let two = goes_trans began (goes_next k s p (tail_next x) two_more (first ∷ c.in_ok-second.second ∷ []) ps f.next (c.in_ok-second.ensures.exact k s p x (first ∷ []) ps low high d)) in
+    rw (q.1, q.2) (writes_fault (goes_trans two (c.in_err-third.ensures.exact k s p two_more (first ∷ c.in_ok-second.second ∷ []) ps refl refl d)))
+
+pub returns-in_err-fourth-clause-exact : goal.returns-in_err-fourth-clause-exact
+returns-in_err-fourth-clause-exact g c = λ begun k s p ps h d.
+    let r = c.from_residual-in_err-fourth in
+    let q = err_from_is_err_and r.result r.ensures.1 in
+    let first = c.args.first in
+    let x = t.four_tail first in
+    let f = t.follows_four first c.requires.range.0 c.requires.range.1 in
+    let began = goes_byte first c.requires.next c.pass.ensures (t.lead_on k s p ps first x f.leads) d in
+    let low : tail_low x ≡ c.second_low.result = f.low ∙ sym c.second_low.ensures in
+    let high : tail_high x ≡ c.second_high.result = f.high ∙ sym c.second_high.ensures in
+    let two = goes_trans began (goes_next k s p (tail_next x) two_more (first ∷ c.in_ok-second.second ∷ []) ps f.next (c.in_ok-second.ensures.exact k s p x (first ∷ []) ps low high d)) in
+    let three = goes_trans two (c.in_ok-third.ensures.exact k s p two_more (first ∷ c.in_ok-second.second ∷ []) ps refl refl d) in
+    rw (q.1, q.2) (writes_fault (goes_trans three (c.in_err-fourth.ensures.exact k s p one_more (first ∷ c.in_ok-second.second ∷ c.in_ok-third.third ∷ []) ps refl refl d)))
+
+pub returns-clause-exact : goal.returns-clause-exact
+returns-clause-exact g c = λ begun k s p ps h d.
+    let first = c.args.first in
+    let x = t.four_tail first in
+    let f = t.follows_four first c.requires.range.0 c.requires.range.1 in
+    let began = goes_byte first c.requires.next c.pass.ensures (t.lead_on k s p ps first x f.leads) d in
+    let low : tail_low x ≡ c.second_low.result = f.low ∙ sym c.second_low.ensures in
+    let high : tail_high x ≡ c.second_high.result = f.high ∙ sym c.second_high.ensures in
+    let two = goes_trans began (goes_next k s p (tail_next x) two_more (first ∷ c.in_ok-second.second ∷ []) ps f.next (c.in_ok-second.ensures.exact k s p x (first ∷ []) ps low high d)) in
+    let three = goes_trans two (c.in_ok-third.ensures.exact k s p two_more (first ∷ c.in_ok-second.second ∷ []) ps refl refl d) in
+    let to = λ (t : List ℕ). chars k t None nothing ∷ ps in
+    writes_if silent to (settled s p ++ first ∷ c.in_ok-second.second ∷ c.in_ok-third.third ∷ c.in_ok-fourth.fourth ∷ []) c.push.result c.push.ensures.err (on_ok_map c.push.result (λ g. gains_on h g) c.push.ensures.ok)
+    (goes_trans three (c.in_ok-fourth.ensures.exact k s p one_more (first ∷ c.in_ok-second.second ∷ c.in_ok-third.third ∷ []) ps refl refl d))

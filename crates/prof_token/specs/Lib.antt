@@ -1,0 +1,9 @@
+pub mod Bytes
+pub mod Ahead
+pub mod Moves
+pub mod Own
+pub mod Kept
+pub mod Numbers
+pub mod Goes
+pub mod Writes
+pub mod Stages

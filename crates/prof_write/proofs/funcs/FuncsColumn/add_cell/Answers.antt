@@ -1,0 +1,13 @@
+use Rattle.std.proofs.Common.{sym}
+use Rattle.prof_page.proofs.Pages.{gathers_same}
+use Rattle.prof_write.specs.Columns.{func_cell}
+use Rattle.prof_write.proofs.CellLemmas.{row_within, text_of_cell}
+use Rattle.prof_write.proofs.funcs.FuncsColumn.add_cell.Goals as goal
+
+pub line-requires : goal.line-requires
+line-requires g c = row_within (func_cell c.args.self.now.column) c.args.self.now.thread.now.shared.funcs c.args.row c.requires
+
+pub returns : goal.returns
+returns g c =
+    gathers_same _ _ _ _ _ _ _ c.add_line.ensures
+    (sym (text_of_cell (func_cell c.args.self.now.column) c.args.self.now.thread.now.shared.funcs c.args.row c.line.result.bytes c.line.ensures))
