@@ -5,3 +5,8 @@ pub mod Categories
 pub mod Samples
 pub mod Frames
 pub mod Written
+pub mod Passing
+pub mod Below
+pub mod MadeText
+pub mod MadeChecks
+pub mod MadeStands

@@ -44,7 +44,7 @@ column_writable cell rows most h = items_writable cell rows most h
 pub index_writable : (n most : ℕ) → n < 2 ^ 64 → IsWritable (index n) most
 index_writable n most h = let e = decimal_is_exact n h in (e.numeral, e.reads)
 
-maybe_writable : (n : Option ℕ) (most : ℕ) → IfSome n (λ k. k < 2 ^ 64) → IsWritable (maybe_index n) most
+pub maybe_writable : (n : Option ℕ) (most : ℕ) → IfSome n (λ k. k < 2 ^ 64) → IsWritable (maybe_index n) most
 maybe_writable None most h = tt
 maybe_writable (Some n) most h = index_writable n most h
 
@@ -52,7 +52,7 @@ resource_writable : (n : Option ℕ) (most : ℕ) → IfSome n (λ k. k < 2 ^ 64
 resource_writable None most h = (minus_one_exact.numeral, minus_one_exact.reads)
 resource_writable (Some n) most h = index_writable n most h
 
-time_writable : (z : ℤ) (most : ℕ) → InRange z → IsWritable (time z) most
+pub time_writable : (z : ℤ) (most : ℕ) → InRange z → IsWritable (time z) most
 time_writable z most h = let e = scaled_text_is_scaled 6 z (in_range_small z h) in (e.numeral, e.reads)
 
 maybe_time_writable : (z : Option ℤ) (most : ℕ) → IfSome z InRange → IsWritable (maybe_time z) most
@@ -80,7 +80,7 @@ ascii [] h i = omega arith
 ascii (c ∷ cs) h zero = let small : nat_lt c 128 ≡ true = (both_true (nat_lt c 128) (are_ascii cs) h).0 in grind (arith, nat_tests)
 ascii (c ∷ cs) h (suc i) = ascii cs (both_true (nat_lt c 128) (are_ascii cs) h).1 i
 
-utf8 : (text : List ℕ) → are_ascii text ≡ true → IsUtf8 text
+pub utf8 : (text : List ℕ) → are_ascii text ≡ true → IsUtf8 text
 utf8 text h = IsUtf8-from_ascii text (ascii text h)
 
 type_utf8 : (u : WeightUnit) → IsUtf8 (weight_type u)
@@ -282,7 +282,7 @@ categories_writable default from [] most h = tt
 categories_writable default from (name ∷ names) most h =
     ((utf8 (codes "name") refl, h 0 name refl, (utf8 (codes "color") refl, color_utf8 (from == default), tt)), categories_writable default (from + 1) names most (λ i x e. h (suc i) x e))
 
-zero_writable : (most : ℕ) → IsWritable (number (codes "0")) most
+pub zero_writable : (most : ℕ) → IsWritable (number (codes "0")) most
 zero_writable most = (record { negative = false; whole = codes "0"; fraction = []; down = false; exponent = [] }, n.number n.no_sign n.zero_int n.no_fraction n.no_exponent)
 
 pub profile_writable : (p : ProfileTables) → IsKept p → length p.categories ≤ 65536 → IsWritable (profile_value p) 256

@@ -1,3 +1,4 @@
 pub mod Gathered
+pub mod Made
 pub mod Texts
 pub mod Writable

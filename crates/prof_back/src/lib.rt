@@ -4,15 +4,17 @@
 ghost use Rattle.std.specs.Prelude.{◌≡◌, ◌≤◌, ◌<◌, ◌^◌, ℕ, ℤ, pos, negsuc, List, length, map, Bool, if◌then◌else◌, Option, None, Some, IfSome};
 ghost use Rattle.std.specs.Option.{option_map, option_map_or};
 ghost use Rattle.prof_back.specs.Gathered.{passed, column_with};
+ghost use Rattle.prof_back.specs.Made.{made};
 ghost use Rattle.prof_back.specs.Texts.{IsKept};
 ghost use Rattle.prof_back.specs.Writable.{IsWritable};
+ghost use Rattle.prof_demo.specs.Generated.{generated};
 ghost use Rattle.prof_grammar.specs.Accepted.{IsAccepted};
 ghost use Rattle.prof_grammar.specs.Reading.{max_depth};
 ghost use Rattle.prof_grammar.specs.Value.{Value, boolean, string, array};
 ghost use Rattle.prof_grammar.specs.declared.TheConstants.{LONGEST};
 ghost use Rattle.prof_layout.specs.Columns.{Cell, read_cell, column_of};
 ghost use Rattle.prof_layout.specs.Lists.{texts_of};
-ghost use Rattle.prof_layout.specs.Profile.{categories_broken, category_names, default_category};
+ghost use Rattle.prof_layout.specs.Profile.{Stands, broken, categories_broken, category_names, default_category, profile_of};
 ghost use Rattle.prof_layout.specs.Tables.{raw_own, raw_tables, strings_fault, weight_unit, weight_reading};
 ghost use Rattle.prof_layout.specs.declared.reading.Reading.TheVariants as reading;
 ghost use Rattle.prof_raw.specs.declared.limits.TheConstants.{MOST_CATEGORIES, MOST_STRINGS};
@@ -82,4 +84,12 @@ pub fn reads_frames_back()
     ensures frames { (t : ThreadTables) → AreTied t.shared → t.shared.categories ≤ MOST_CATEGORIES →
         frames_of (raw_tables None (thread_value t)) ≡ t.shared.frames }
     ensures stack_frames { (t : ThreadTables) → IsShared t.shared → stack_frames_of (raw_tables None (thread_value t)) ≡ t.shared.stack_frames }
+{}
+
+/// The text of the profile that a number makes is that of a value. It is accepted as this value, which breaks no rule, and so it
+/// stands for a profile.
+pub fn reads_made_profiles()
+    ensures text { (n : ℕ) → compact (made n) ≡ generated n }
+    ensures whole { (n : ℕ) → broken (made n) ≡ None }
+    ensures stands { (n : ℕ) → Stands (generated n) (profile_of (made n)) }
 {}

@@ -6,19 +6,21 @@ use Rattle.prof_io.specs.Causes.{Rose}
 use Rattle.prof_io.specs.Shelf.{Place, Served, Shelf}
 use Rattle.prof_io.specs.declared.copying.OutFault.{OutFault}
 use Rattle.prof_desk.specs.declared.breaks.Break.{Break}
+use Rattle.prof_desk.specs.declared.outcome.Outcome.{Outcome}
 use Rattle.prof_desk.specs.declared.outcome.Stop.{Stop}
 use Rattle.prof_desk.specs.declared.outcome.Stop.TheVariants as stop
 use Rattle.prof_desk.specs.declared.status.Status.{Status}
 use Rattle.prof_desk.specs.declared.status.Status.TheVariants as status
 use Rattle.prof_desk.specs.declared.words.Order.{Order}
+use Rattle.prof_desk.specs.declared.words.Order.TheVariants.{Script}
 use Rattle.prof_words.specs.declared.order.WordRefusal.{WordRefusal}
 use Rattle.prof_words.specs.declared.order.WordRefusal.TheVariants as refusal
-use Rattle.prof_desk.specs.declared.playing.PlayEnd.{PlayEnd}
-use Rattle.prof_desk.specs.declared.playing.PlayEnd.TheVariants as play_end
+use Rattle.prof_script.specs.declared.playing.PlayEnd.{PlayEnd}
+use Rattle.prof_script.specs.declared.playing.PlayEnd.TheVariants as play_end
 use Rattle.prof_desk.specs.Inputs.{Input, IsInput, IsBreak, IsBreakAt, IsThere, AreInputs, AreThere, name_at, text_in}
 use Rattle.prof_desk.specs.Orders.{Kind, can_end, files_of, least_of, needed_of}
 use Rattle.prof_desk.specs.Outcomes.{Reads, begun_by, ended_by, stopped_by}
-use Rattle.prof_desk.specs.Output.{AreHandled, output_of, readings_of, responses_of}
+use Rattle.prof_desk.specs.Output.{AreFates, AreHandled, output_of, readings_of, responses_of}
 use Rattle.prof_io.specs.Outside.{Kept, Seen}
 use Rattle.prof_desk.specs.Playing.{Leaves, status_of}
 use Rattle.prof_desk.specs.Ran.{AreAnswered, Did, Does, Keeps, Outside, Ran, Serves, ServesAll, served_by}
@@ -232,18 +234,29 @@ pub gives_up : (order : Order) (old : Outside) → Did order [] no_ways old old 
 gives_up order old = ends order old old old.out [] [] (output_of order [] no_ways) 0 0 old.reads no_ways status.NoMemory (starts order old) refl
     ([], output_of order [] no_ways, refl, writes_none old.out) (omega arith) (omega arith) (omega arith) refl (λ f. cc) (λ f. cc) (λ f. cc)
 
--- a keeper that wasn't begun
-pub keeps_nothing : (order : Order) (k : Kept) (at : ℕ) → Keeps order [] no_ways k k (ended_by at status.NoMemory)
-keeps_nothing order k at = record {
-  fault = λ f. cc;
+pub no_fates : (order : Order) → AreFates order [] no_ways
+no_fates (Script name script) = tt
+no_fates order = tt
+
+-- a keeper that wasn't asked
+pub keeps_unasked : (order : Order) (inputs : List Input) (k : Kept) (end : Outcome) → AreFates order inputs no_ways → end.status ≢ status.Done → end.status ≢ status.KeeperFault
+    → Keeps order inputs no_ways k k end
+keeps_unasked order inputs k end fated not_done no_fault = record {
+  fault = λ f. absurd (no_fault f);
   later = omega arith;
   began = false;
-  all = λ f. cc;
+  all = λ f. absurd (not_done f);
   failed = λ f. cc;
   kept = λ f. cc;
   left = λ _. refl;
-  steady = λ _. ((λ f. cc), refl);
+  unasked = λ _. refl;
+  fated = fated;
+  told = λ _ _. refl;
+  steady = λ _. (no_fault, refl);
 }
+
+pub keeps_nothing : (order : Order) (k : Kept) (at : ℕ) → Keeps order [] no_ways k k (ended_by at status.NoMemory)
+keeps_nothing order k at = keeps_unasked order [] k (ended_by at status.NoMemory) (no_fates order) (λ f. cc) (λ f. cc)
 
 -- the connections before stay where none is served
 served_none : (coming : Option (List (List ℕ))) (before : Option (List Served)) (responses : List (List ℕ)) → responses ≡ []
@@ -332,29 +345,30 @@ one_text order old files out rows j input kind name x end e r left few within le
 pub answers_one : {T : Type 0} (order : Order) (old : Outside) (files out : Seen) (rows j : ℕ) (input : T → Input) (kind : Kind) (name : List ℕ) (x : T) (r : Result ⊤ PlayEnd)
     → file_behind (files_of order) 0 ≡ Some (kind, name) → length (files_of order) ≡ 1 → needed_of order ≡ 1 → Reads input kind name old.files files (Ok x)
     → Leaves old.out out (status_of r) (output_of order (input x ∷ []) no_ways) → rows ≤ old.reads + j → j ≤ readings_of order (input x ∷ []) no_ways
-    → Does order old (record { files = files; out = out; reads = rows }) (ended_by 1 (status_of r))
-answers_one order old files out rows j input kind name x (Ok y) e one need r left few within =
-    one_text order old files out rows j input kind name x status.Done e r left few within (omega (arith, one)) refl (λ f. cc) (λ f. cc) (λ _. tt)
-answers_one order old files out rows j input kind name x (Err play_end.OutFault) e one need r left few within =
-    one_text order old files out rows j input kind name x status.OutFault e r left few within (omega (arith, need)) refl (λ f. cc) (λ f. cc) (λ _. tt)
-answers_one order old files out rows j input kind name x (Err play_end.NoMemory) e one need r left few within =
-    one_text order old files out rows j input kind name x status.NoMemory e r left few within (omega arith) refl (λ f. cc) (λ f. cc) (λ _. tt)
+    → AreHandled order (input x ∷ []) no_ways → Does order old (record { files = files; out = out; reads = rows }) (ended_by 1 (status_of r))
+answers_one order old files out rows j input kind name x (Ok y) e one need r left few within handled =
+    one_text order old files out rows j input kind name x status.Done e r left few within (omega (arith, one)) refl (λ f. cc) (λ f. cc) (λ _. handled)
+answers_one order old files out rows j input kind name x (Err play_end.OutFault) e one need r left few within handled =
+    one_text order old files out rows j input kind name x status.OutFault e r left few within (omega (arith, need)) refl (λ f. cc) (λ f. cc) (λ _. handled)
+answers_one order old files out rows j input kind name x (Err play_end.NoMemory) e one need r left few within handled =
+    one_text order old files out rows j input kind name x status.NoMemory e r left few within (omega arith) refl (λ f. cc) (λ f. cc) (λ _. handled)
 
 -- an order that reads no file, and writes one text
 text_alone : (order : Order) (old : Outside) (out : Seen) (end : Status)
     → Leaves old.out out end (output_of order [] no_ways) → least_of order end ≤ 0 → can_end order end ≡ true → end ≢ status.Broken → end ≢ status.FileFault
-    → Does order old (record { files = old.files; out = out; reads = old.reads }) (ended_by 0 end)
-text_alone order old out end left least can no_break no_fault = (
+    → AreHandled order [] no_ways → Does order old (record { files = old.files; out = out; reads = old.reads }) (ended_by 0 end)
+text_alone order old out end left least can no_break no_fault handled = (
   [],
   no_ways,
-  ends order old old out [] [] (output_of order [] no_ways) 0 0 old.reads no_ways end (starts order old) refl left (omega arith) (omega arith) least can no_break no_fault (λ _. tt),
+  ends order old old out [] [] (output_of order [] no_ways) 0 0 old.reads no_ways end (starts order old) refl left (omega arith) (omega arith) least can no_break no_fault (λ _. handled),
 )
 
 pub answers_alone : (order : Order) (old : Outside) (out : Seen) (r : Result ⊤ PlayEnd) → length (files_of order) ≡ 0 → needed_of order ≡ 0
-    → Leaves old.out out (status_of r) (output_of order [] no_ways) → Does order old (record { files = old.files; out = out; reads = old.reads }) (ended_by 0 (status_of r))
-answers_alone order old out (Ok x) none need left = text_alone order old out status.Done left (omega (arith, none)) refl (λ f. cc) (λ f. cc)
-answers_alone order old out (Err play_end.OutFault) none need left = text_alone order old out status.OutFault left (omega (arith, need)) refl (λ f. cc) (λ f. cc)
-answers_alone order old out (Err play_end.NoMemory) none need left = text_alone order old out status.NoMemory left (omega arith) refl (λ f. cc) (λ f. cc)
+    → Leaves old.out out (status_of r) (output_of order [] no_ways) → AreHandled order [] no_ways
+    → Does order old (record { files = old.files; out = out; reads = old.reads }) (ended_by 0 (status_of r))
+answers_alone order old out (Ok x) none need left handled = text_alone order old out status.Done left (omega (arith, none)) refl (λ f. cc) (λ f. cc) handled
+answers_alone order old out (Err play_end.OutFault) none need left handled = text_alone order old out status.OutFault left (omega (arith, need)) refl (λ f. cc) (λ f. cc) handled
+answers_alone order old out (Err play_end.NoMemory) none need left handled = text_alone order old out status.NoMemory left (omega arith) refl (λ f. cc) (λ f. cc) handled
 
 -- and where that isn't accepted
 pub first_stops : {T : Type 0} (order : Order) (old : Outside) (files : Seen) (input : T → Input) (kind : Kind) (name : List ℕ) (s : Stop)

@@ -11,9 +11,9 @@ use Rattle.prof_path.specs.declared.transform.Implementation.TheVariants.{Combin
 use Rattle.prof_path.specs.Shown.{shown, shows_func}
 use Rattle.prof_path.specs.Terms.{terms_of}
 use Rattle.prof_path.specs.Finals.{final}
-use Rattle.prof_tree.specs.Views.{finals, selected_samples}
+use Rattle.prof_view_tree.specs.Views.{finals, selected_samples}
 use Rattle.prof_desk.specs.Output.{fresh}
-use Rattle.prof_tree.specs.Weighing.{own_path}
+use Rattle.prof_view_tree.specs.Weighing.{own_path}
 
 -- a test that each element passes leaves the list as it is
 filter-all : {A : Type 0} (p : A → Bool) (xs : List A) → ((x : A) → p x ≡ true) → filter p xs ≡ xs

@@ -1,5 +1,5 @@
 -- The threads that a profile holds, and how answers end.
-use Rattle.std.proofs.Common.{◌≡◌, ◌∙◌, ◌<◌, ◌≤◌, ◌+◌, ℕ, List, [], ◌∷◌, length, map, get_or, Option, None, Some, Ok, Err, Result, OnOk, OnErr, refl, sym, ap, zero-add, append-nil, arith}
+use Rattle.std.proofs.Common.{◌≡◌, ◌∙◌, ◌<◌, ◌≤◌, ℕ, List, [], ◌∷◌, length, map, get_or, None, Some, Ok, Err, Result, OnOk, OnErr, refl, sym, ap, zero-add, append-nil, arith}
 use Rattle.std.specs.List.{enumerate_from, slice_get}
 use Rattle.std.specs.Prelude.{⊤}
 use Rattle.std.proofs.lemmas.List.{get_or-map, length-map}
@@ -13,8 +13,8 @@ use Rattle.prof_tables.specs.declared.thread.Thread.{Thread}
 use Rattle.std.specs.declared.alloc.Global.{Global}
 use Rattle.std.specs.declared.rc.Rc.{Rc}
 use Rattle.prof_desk.specs.Playing.{Leaves, status_of}
-use Rattle.prof_desk.specs.declared.playing.PlayEnd.{PlayEnd}
-use Rattle.prof_desk.specs.declared.playing.PlayEnd.TheVariants as play_end
+use Rattle.prof_script.specs.declared.playing.PlayEnd.{PlayEnd}
+use Rattle.prof_script.specs.declared.playing.PlayEnd.TheVariants as play_end
 use Rattle.prof_writer.proofs.Outputs.{writes_as, writes_ok, writes_stop}
 
 -- answers that end by a text leave it, or a front of it where the output failed

@@ -4,3 +4,4 @@ pub mod Held
 pub mod Rows
 pub mod OwnTree
 pub mod Carrying
+pub mod Scripts

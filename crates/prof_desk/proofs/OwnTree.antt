@@ -1,20 +1,17 @@
 -- The tree of the samples' own paths.
-use Rattle.std.proofs.Common.{◌≡◌, ℕ, ◌+◌, ◌<◌, ◌≤◌, List, [], ◌∷◌, ◌++◌, length, map, take, Some, ap, sym, subst, ◌∙◌, arith}
-use Rattle.std.specs.List.{All, slice_get}
-use Rattle.std.proofs.lemmas.Option.{slice_get_within}
-use Rattle.std.proofs.lemmas.List.{take_more, take_all, map-append}
+use Rattle.std.proofs.Common.{◌≡◌, ℕ, ◌+◌, ◌<◌, List, [], ◌∷◌, length, map, sym, subst, arith}
+use Rattle.std.specs.List.{All}
 use Rattle.std.proofs.lemmas.List.Elements.{All-nil, All-cons, All-weaker}
 use Rattle.prof_tables.specs.declared.rows.Step.{Step}
 use Rattle.prof_tables.specs.declared.rows.SampleRow.{SampleRow}
 use Rattle.prof_tables.specs.Threads.{ThreadTables}
-use Rattle.prof_tables.specs.Paths.{path}
 use Rattle.prof_tables.specs.Ties.{IsStackRow}
 use Rattle.prof_tree.specs.declared.node.Node.{Node}
 use Rattle.prof_tree.specs.Nodes.{Weighed, nodes_of}
 use Rattle.prof_tree.proofs.Known.{nodes_of-known}
-use Rattle.prof_tree.specs.Weighing.{own_path}
+use Rattle.prof_view_tree.specs.Weighing.{own_path}
 use Rattle.prof_desk.specs.Replies.{HasFuncs}
-use Rattle.prof_desk.proofs.Rows.{found_at, path_within-known}
+use Rattle.prof_desk.proofs.Rows.{path_within-known}
 
 -- the functions of the samples' paths are the thread's
 own_known : (t : ThreadTables) → All (IsStackRow (length t.shared.funcs) t.shared.categories) t.shared.stacks → (ss : List SampleRow)

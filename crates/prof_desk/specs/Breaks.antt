@@ -92,3 +92,4 @@ abbrev pub break_text : Option Break → List ℕ
 break_text None = []
 break_text (Some (break.Json f)) = fault_text f
 break_text (Some (break.Rule b)) = broken_text b
+break_text (Some break.LongScript) = codes "broken script"

@@ -1,5 +1,5 @@
 -- The files that an order reads.
-use Rattle.std.specs.Prelude.{◌≡◌, ℕ, zero, suc, List, [], ◌∷◌, Option, Some, None, IfSome, IsSome, ⊤, option_map}
+use Rattle.std.specs.Prelude.{◌≡◌, ◌≤◌, ◌<◌, ℕ, length, zero, suc, List, [], ◌∷◌, Option, Some, None, IfSome, IsSome, ⊤, option_map}
 use Rattle.prof_io.specs.Shelf.{Place, Shelf, content, file_at}
 use Rattle.prof_gather.specs.Feeding.{IsOfText}
 use Rattle.prof_gather.specs.Reading.{EndsBy}
@@ -8,27 +8,36 @@ use Rattle.prof_read.specs.declared.read.Form.{Form}
 use Rattle.prof_read.specs.declared.read.Form.TheVariants.{Processed}
 use Rattle.prof_tables.specs.Profiles.{ProfileTables}
 use Rattle.sha2.specs.Sha256.{sha256}
-use Rattle.prof_desk.specs.Orders.{Kind, a_profile}
+use Rattle.prof_desk.specs.Orders.{Kind, a_profile, a_script}
 use Rattle.prof_desk.specs.declared.breaks.Break.{Break}
 use Rattle.prof_desk.specs.declared.breaks.Break.TheVariants as break
 
--- what an accepted file is: a profile with its digest and form
+-- what an accepted file is: a profile with its digest and form, or a script's bytes
 pub data Input : Type 0 where
   of_profile : ProfileTables → List ℕ → Form → Input
+  of_script : List ℕ → Input
 
 -- a profile as it is read
 abbrev pub profile_input : ProfileTables × List ℕ × Form → Input
 profile_input r = of_profile r.0 r.1 r.2
 
+-- how many bytes a script may have
+abbrev pub script_limit : ℕ
+script_limit = 16777216
+
 -- the bytes are accepted, and are this
 abbrev pub IsInput : Kind → List ℕ → Input → Type 0
 IsInput a_profile bytes (of_profile p digest form) = Stands bytes p × (digest ≡ sha256 bytes) × (form ≡ Processed)
+IsInput a_script bytes (of_script text) = (text ≡ bytes) × (length bytes ≤ script_limit)
+IsInput kind bytes input = ⊥
 
 -- The text isn't accepted, and for this: the fault by which its reading ends, which is one of a text, or the first check
--- that it fails.
+-- that it fails. A script isn't accepted for its length alone.
 abbrev pub IsBreak : Kind → Option (List ℕ) → Break → Type 0
 IsBreak a_profile text (break.Json f) = IsOfText f × EndsBy f text
 IsBreak a_profile text (break.Rule b) = IfSome text (λ bytes. Breaks bytes b)
+IsBreak a_script text break.LongScript = IfSome text (λ bytes. script_limit < length bytes)
+IsBreak kind text b = ⊥
 
 -- the bytes of the file of that name, where the files tell their bytes
 abbrev pub text_in : Place → List ℕ → Option (List ℕ)

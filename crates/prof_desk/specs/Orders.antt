@@ -3,28 +3,34 @@ use Rattle.std.specs.Prelude.{ℕ, List, [], ◌∷◌, length, Bool, true, fals
 use Rattle.prof_desk.specs.declared.status.Status.{Status}
 use Rattle.prof_desk.specs.declared.status.Status.TheVariants.{Done, Usage, OutFault, HallFault, KeeperFault}
 use Rattle.prof_desk.specs.declared.words.Order.{Order}
-use Rattle.prof_desk.specs.declared.words.Order.TheVariants.{Tree, Markers, Check, Gen}
+use Rattle.prof_desk.specs.declared.words.Order.TheVariants.{Tree, Markers, Script, Check, Convert, Gen}
 
 -- what a file is to be
 pub data Kind : Type 0 where
   a_profile : Kind
+  a_script : Kind
 
 -- the files that it reads, in the order in which it begins them
 abbrev pub files_of : Order → List (Kind × List ℕ)
 files_of (Tree name) = (a_profile, name) ∷ []
 files_of (Markers name thread search) = (a_profile, name) ∷ []
+files_of (Script name script) = (a_profile, name) ∷ (a_script, script) ∷ []
 files_of (Check name) = (a_profile, name) ∷ []
+files_of (Convert name) = (a_profile, name) ∷ []
 files_of (Gen number) = []
 
 -- how many of them it reads before it writes
 abbrev pub needed_of : Order → ℕ
 needed_of (Tree name) = 1
 needed_of (Markers name thread search) = 1
+needed_of (Script name script) = 2
 needed_of (Check name) = 1
+needed_of (Convert name) = 1
 needed_of (Gen number) = 0
 
 -- whether it asks the keeper, and under which name
 abbrev pub asks_keeper : Order → Bool
+asks_keeper (Script name script) = true
 asks_keeper order = false
 
 abbrev pub keeper_name : Order → List ℕ

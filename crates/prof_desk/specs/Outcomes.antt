@@ -1,5 +1,5 @@
 -- How the reading of a file, and an order, ended.
-use Rattle.std.specs.Prelude.{◌≡◌, ◌≢◌, ◌≤◌, ◌+◌, ◌-◌, ◌^◌, min, ℕ, List, None, Some, IfOk, IfErr, IfSome, OnOk, Result, Err, ⊤}
+use Rattle.std.specs.Prelude.{◌≡◌, ◌≢◌, ◌≤◌, ◌+◌, ◌-◌, ◌^◌, min, ℕ, List, Option, None, Some, IfOk, IfErr, IfSome, OnOk, Result, Err, ⊤}
 use Rattle.std.specs.Io.KnownBytes.{IsAtEnd}
 use Rattle.prof_io.specs.Causes.{Rose}
 use Rattle.prof_desk.specs.declared.outcome.Outcome.{Outcome}
@@ -27,11 +27,15 @@ begun_by Broken accepted = accepted + 1
 begun_by FileFault accepted = accepted + 1
 begun_by status accepted = accepted
 
+-- why this text isn't accepted
+abbrev pub IsStopOf : Kind → Option (List ℕ) → Seen → Seen → Stop → Type 0
+IsStopOf kind text old new (stop.Broken b) = IsBreak kind text b × (new.faults ≡ old.faults)
+IsStopOf kind text old new stop.FileFault = Rose old.faults new.faults
+IsStopOf kind text old new stop.NoMemory = ⊤
+
 -- why the file of that name isn't accepted
 abbrev pub IsStop : Kind → List ℕ → Seen → Seen → Stop → Type 0
-IsStop kind name old new (stop.Broken b) = IsBreak kind (text_in old.place name) b × (new.faults ≡ old.faults)
-IsStop kind name old new stop.FileFault = Rose old.faults new.faults
-IsStop kind name old new stop.NoMemory = ⊤
+IsStop kind name old new s = IsStopOf kind (text_in old.place name) old new s
 
 -- The file of that name was begun and read: it is accepted, and is this input, or it isn't.
 pub record Reads {T : Type 0} (input : T → Input) (kind : Kind) (name : List ℕ) (old new : Seen) (result : Result T Stop) : Type 0 where

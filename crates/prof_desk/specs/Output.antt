@@ -1,6 +1,6 @@
 -- What an order writes. Each of the functions over orders has one equation for each order.
-use Rattle.std.specs.Prelude.{ℕ, List, [], ◌∷◌, ◌++◌, codes, length, slice_get, ⊤, if◌then◌else◌}
-use Rattle.std.specs.List.{filter}
+use Rattle.std.specs.Prelude.{◌≡◌, ◌*◌, ℕ, List, [], ◌∷◌, ◌++◌, codes, length, slice_get, Option, Some, None, ⊤, if◌then◌else◌}
+use Rattle.std.specs.List.{filter, zip}
 use Rattle.std.specs.Option.{option_map_or}
 use Rattle.std.specs.Fmt.{decimal}
 use Rattle.prof_io.specs.Shelf.{Shelf}
@@ -8,20 +8,28 @@ use Rattle.prof_demo.specs.Generated.{generated}
 use Rattle.prof_marker.specs.declared.list.Marker.{Marker}
 use Rattle.prof_marker.specs.Found.{is_found}
 use Rattle.prof_marker.specs.Markers.{pair}
+use Rattle.prof_tables.specs.Profiles.{ProfileTables}
 use Rattle.prof_tables.specs.Threads.{ThreadTables}
 use Rattle.prof_path.specs.declared.transform.Implementation.TheVariants.{Combined}
 use Rattle.prof_path.specs.Terms.{is_long_search, terms_of}
 use Rattle.prof_path.specs.Views.{ViewLists}
-use Rattle.prof_tree.specs.Views.{plain_tree, selected_weight, dropped_weight}
+use Rattle.prof_view_tree.specs.Views.{plain_tree, selected_weight, dropped_weight}
 use Rattle.prof_machine.specs.declared.refusal.Refusal.TheVariants.{NoSession, NoThread, LongSearch}
+use Rattle.prof_machine.specs.Known.{Known}
+use Rattle.prof_machine.specs.Play.{Fate, Starved, Held, Line, held_after_all}
+use Rattle.prof_script.specs.Lines.{lines_of}
+use Rattle.prof_script.specs.Playing.{AreFated, output}
+use Rattle.prof_script.specs.Readings.{lines_readings}
 use Rattle.prof_desk.specs.declared.words.Order.{Order}
-use Rattle.prof_desk.specs.declared.words.Order.TheVariants.{Tree, Markers, Check, Gen}
-use Rattle.prof_desk.specs.Inputs.{Input, of_profile}
+use Rattle.prof_desk.specs.declared.words.Order.TheVariants.{Tree, Markers, Script, Check, Convert, Gen}
+use Rattle.prof_desk.specs.Inputs.{Input, of_profile, of_script}
 use Rattle.prof_reply.specs.Refusals.{refusal_text}
 use Rattle.prof_reply.specs.Replies.{markers_text, tree_text}
 use Rattle.prof_desk.specs.Summary.{summary_text}
+use Rattle.prof_write.specs.Compact.{compact}
+use Rattle.prof_write.specs.Written.{profile_value, stack_rows}
 use Rattle.prof_reply.specs.Lines.{line}
-use Rattle.prof_desk.specs.Ways.{Ways}
+use Rattle.prof_desk.specs.Ways.{Untold, Ways}
 
 -- the view of a session that has just been opened on the first thread
 abbrev pub fresh : ViewLists
@@ -49,11 +57,43 @@ abbrev pub markers_replies : List ThreadTables → ℕ → List ℕ → List ℕ
 markers_replies threads thread search =
     option_map_or (λ t. line (codes "ok " ++ decimal 0) ++ markers_reply t search) (slice_get threads thread) (unopened (length threads))
 
+-- the profile that a script is played on, under its name
+abbrev pub named_main : ProfileTables → List ℕ → List (List ℕ × Known)
+named_main p digest = (codes "main", record { threads = p.threads; digest = digest }) ∷ []
+
+-- no session, and these kept texts
+abbrev pub unopened_with : Shelf → Held
+unopened_with texts = record { sessions = []; kept = texts }
+
+-- the first lines of a script, each with its fate
+abbrev pub fated_lines : List ℕ → List Fate → List (Line × Fate)
+fated_lines script fates = zip (lines_of script) fates
+
+-- the replies to the first lines of a script, from no session and no kept text
+abbrev pub script_replies : ProfileTables → List ℕ → List ℕ → List Fate → List ℕ
+script_replies p digest script fates = output (named_main p digest) (unopened_with []) (fated_lines script fates)
+
+-- how many stack rows these lines may read, and the one behind them, if there is one, in which memory may have run out
+abbrev pub script_readings : ProfileTables → List ℕ → List ℕ → List Fate → ℕ
+script_readings p digest script fates =
+    lines_readings (named_main p digest) (unopened_with []) [] (fated_lines script (fates ++ Starved ∷ []))
+
+-- what is written, and how many rows are read, where that is told
+abbrev pub text_by : Option Untold → List ℕ → List ℕ
+text_by None text = text
+text_by (Some untold) text = untold.text
+
+abbrev pub rows_by : Option Untold → ℕ → ℕ
+rows_by None rows = rows
+rows_by (Some untold) rows = untold.rows
+
 -- what may be written once these files were accepted: with all of them it is the output
 abbrev pub output_of : Order → List Input → Ways → List ℕ
 output_of (Tree name) (of_profile p digest form ∷ []) ways = tree_replies p.threads
 output_of (Markers name thread search) (of_profile p digest form ∷ []) ways = markers_replies p.threads thread search
+output_of (Script name script) (of_profile p digest form ∷ of_script text ∷ []) ways = text_by ways.untold (script_replies p digest text ways.fates)
 output_of (Check name) (of_profile p digest form ∷ []) ways = summary_text p digest form
+output_of (Convert name) (of_profile p digest form ∷ []) ways = compact (profile_value p)
 output_of (Gen number) [] ways = generated number
 output_of order inputs ways = []
 
@@ -65,14 +105,24 @@ first_rows (t ∷ threads) = length t.shared.stacks
 -- how many stack rows may be read once these files were accepted
 abbrev pub readings_of : Order → List Input → Ways → ℕ
 readings_of (Tree name) (of_profile p digest form ∷ []) ways = first_rows p.threads
+readings_of (Script name script) (of_profile p digest form ∷ of_script text ∷ []) ways = rows_by ways.untold (script_readings p digest text ways.fates)
+readings_of (Convert name) (of_profile p digest form ∷ []) ways = 2 * stack_rows p.threads
 readings_of order inputs ways = 0
 
--- each request has its fate
+-- each request was handled
 abbrev pub AreHandled : Order → List Input → Ways → Type 0
+AreHandled (Script name script) (of_profile p digest form ∷ of_script text ∷ []) ways = length ways.fates ≡ length (lines_of text)
 AreHandled order inputs ways = ⊤
+
+-- each request that was handled fared as it can: it was answered, or the keeper failed where it was asked
+abbrev pub AreFates : Order → List Input → Ways → Type 0
+AreFates (Script name script) (of_profile p digest form ∷ of_script text ∷ []) ways = AreFated (named_main p digest) (unopened_with []) (fated_lines text ways.fates)
+AreFates order inputs ways = ⊤
 
 -- the texts that the keeper has in the end, of those that it began with
 abbrev pub kept_of : Order → List Input → Ways → Shelf → Shelf
+kept_of (Script name script) (of_profile p digest form ∷ of_script text ∷ []) ways texts =
+    (held_after_all (named_main p digest) (unopened_with texts) (fated_lines text ways.fates)).kept
 kept_of order inputs ways texts = texts
 
 -- the responses of each served connection

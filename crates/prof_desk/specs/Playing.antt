@@ -1,7 +1,7 @@
 -- How the answering of an order ends.
 use Rattle.std.specs.Prelude.{◌≡◌, ℕ, List, ◌++◌, Result, Ok, Err, ⊤}
-use Rattle.prof_desk.specs.declared.playing.PlayEnd.{PlayEnd}
-use Rattle.prof_desk.specs.declared.playing.PlayEnd.TheVariants as play_end
+use Rattle.prof_script.specs.declared.playing.PlayEnd.{PlayEnd}
+use Rattle.prof_script.specs.declared.playing.PlayEnd.TheVariants as play_end
 use Rattle.prof_desk.specs.declared.status.Status.{Status}
 use Rattle.prof_desk.specs.declared.status.Status.TheVariants.{Done, OutFault, NoMemory}
 use Rattle.prof_io.specs.Outside.{Seen}

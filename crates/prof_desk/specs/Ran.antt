@@ -9,8 +9,8 @@ use Rattle.prof_io.specs.declared.outside.Counted.{Ghosts}
 use Rattle.prof_desk.specs.Breaks.{break_text}
 use Rattle.prof_desk.specs.Inputs.{Input, AreInputs, AreThere, IsBreakAt, name_at}
 use Rattle.prof_desk.specs.Orders.{asks_hall, asks_keeper, can_end, connections_of, files_of, keeper_name, least_of}
-use Rattle.prof_desk.specs.Outcomes.{begun_by}
-use Rattle.prof_desk.specs.Output.{AreHandled, kept_of, output_of, readings_of, responses_of}
+use Rattle.prof_desk.specs.Outcomes.{begun_by, ended_by}
+use Rattle.prof_desk.specs.Output.{AreFates, AreHandled, kept_of, output_of, readings_of, responses_of}
 use Rattle.prof_io.specs.Outside.{Kept, Seen, seen}
 use Rattle.prof_desk.specs.Playing.{Leaves}
 use Rattle.prof_io.specs.Sinks.{Wrote}
@@ -50,9 +50,9 @@ pub record Did (order : Order) (inputs : List Input) (ways : Ways) (old new : Ou
   -- where no file can fail, and all are there
   pub steady : old.files.sure → AreThere old.files.place.files (files_of order) → end.status ≢ FileFault
 
--- the keeper tells these texts, if it tells any
+-- the keeper tells these texts
 abbrev pub Tells : Option Shelf → Shelf → Type 0
-Tells None texts = ⊤
+Tells None texts = ⊥
 Tells (Some kept) texts = (name : List ℕ) → file_at kept name ≡ file_at texts name
 
 -- What became of the keeper.
@@ -65,6 +65,10 @@ pub record Keeps (order : Order) (inputs : List Input) (ways : Ways) (old new : 
   pub failed : began ≡ true → RoseBy (failed_count ways.fates) new.returned_at new.faults
   pub kept : began ≡ true → IfSome (old.begun (keeper_name order)) (λ texts. Tells new.texts (kept_of order inputs ways texts))
   pub left : began ≡ false → new.texts ≡ old.texts
+  pub unasked : began ≡ false → ways.fates ≡ []
+  pub fated : AreFates order inputs ways
+  -- where it tells its texts, all is told
+  pub told : (texts : Shelf) → old.begun (keeper_name order) ≡ Some texts → ways.untold ≡ None
   -- where it can't fail
   pub steady : old.sure → (end.status ≢ KeeperFault) × (failed_count ways.fates ≡ 0)
 
@@ -113,6 +117,18 @@ pub record Serves (order : Order) (inputs : List Input) (ways : Ways) (old new :
 -- How an order that asks neither keeper nor hall was carried out.
 abbrev pub Does : Order → Outside → Outside → Outcome → Type 0
 Does order old new end = (inputs : List Input) × (ways : Ways) × Did order inputs ways old new end
+
+-- How an order that asks the keeper and no hall was carried out.
+abbrev pub DoesKeeping : Order → Outside → Outside → Kept → Kept → Outcome → Type 0
+DoesKeeping order old new k l end = (inputs : List Input) × (ways : Ways) × Did order inputs ways old new end × Keeps order inputs ways k l end
+
+-- What is left of such an order once these of its files were accepted: it writes, reads rows, and asks the keeper.
+pub record EndsKeeping (order : Order) (inputs : List Input) (out new_out : Seen) (reads new_reads : ℕ) (k l : Kept) (end : Status) : Type 0 where
+  pub ways : Ways
+  pub written : Leaves out new_out end (output_of order inputs ways)
+  pub readings : new_reads ≤ reads + readings_of order inputs ways
+  pub handled : end ≡ Done → AreHandled order inputs ways
+  pub kept : Keeps order inputs ways k l (ended_by (length inputs) end)
 
 -- How an order was carried out. One choice of its inputs and of what the outside decided serves all of it.
 pub record Carried (order : Order) (old new : Outside) (k l : Kept) (h i : Seen) (end : Outcome) : Type 0 where

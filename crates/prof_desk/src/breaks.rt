@@ -15,6 +15,8 @@ pub enum Break {
     Json(JsonFault),
     /// A rule that the profile breaks.
     Rule(Broken),
+    /// A script that has too many bytes.
+    LongScript,
 }
 
 /// A rule's name.
@@ -149,6 +151,15 @@ pub fn fault_text(fault: JsonFault) -> Line
     line
 }
 
+/// That a script is too long.
+fn long_text() -> Line
+    ensures { result.bytes ≡ codes "broken script" }
+{
+    let mut line = ArrayString::new();
+    line.push_str("broken script");
+    line
+}
+
 /// Why a text isn't accepted, or nothing.
 pub fn break_text(broken: Option<Break>) -> Line
     ensures { result.bytes ≡ break_text broken }
@@ -156,6 +167,7 @@ pub fn break_text(broken: Option<Break>) -> Line
     match broken {
         Some(Break::Json(fault)) => fault_text(fault),
         Some(Break::Rule(broken)) => broken_text(broken),
+        Some(Break::LongScript) => long_text(),
         None => ArrayString::new(),
     }
 }

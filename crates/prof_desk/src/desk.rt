@@ -1,12 +1,15 @@
 // The top call.
-ghost use Rattle.std.specs.Prelude.{◌≡◌, ◌∷◌, ◌⊎◌, None, IfSome, false, [], Result, ⊤};
+ghost use Rattle.std.specs.Prelude.{◌≡◌, ◌≢◌, ◌∷◌, ◌⊎◌, ℕ, List, None, IfOk, IfSome, false, true, [], Result, ⊤};
 ghost use Rattle.prof_io.specs.declared.copying.OutFault.{OutFault};
 ghost use Rattle.prof_desk.specs.Breaks.{break_text};
-ghost use Rattle.prof_desk.specs.Inputs.{name_at};
-ghost use Rattle.prof_desk.specs.Orders.{a_profile, asks_hall, asks_keeper, files_of};
+ghost use Rattle.prof_read.specs.declared.read.Form.{Form};
+ghost use Rattle.prof_tables.specs.Profiles.{ProfileTables};
+ghost use Rattle.prof_desk.specs.Inputs.{name_at, of_profile, of_script};
+ghost use Rattle.prof_desk.specs.Orders.{a_profile, a_script, asks_hall, asks_keeper, can_end, files_of};
+ghost use Rattle.prof_desk.specs.Output.{named_main};
 ghost use Rattle.prof_io.specs.Outside.{kept, seen};
 ghost use Rattle.prof_desk.specs.Playing.{status_of};
-ghost use Rattle.prof_desk.specs.Ran.{Carried, Does, Ran, outside};
+ghost use Rattle.prof_desk.specs.Ran.{Carried, Does, DoesKeeping, EndsKeeping, Ran, outside};
 ghost use Rattle.prof_io.specs.Sinks.{Wrote};
 ghost use Rattle.prof_desk.specs.Telling.{refusal_status, told};
 ghost use Rattle.prof_desk.specs.Words.{order_of};
@@ -15,11 +18,15 @@ ghost use Rattle.prof_words.specs.Reading.{texts_of};
 use crate::Status;
 use crate::breaks::break_text;
 use crate::outcome::Outcome;
-use crate::playing::{PlayEnd, write_check, write_generated, write_markers, write_tree};
-use crate::reading::read_named;
+use crate::playing::{write_check, write_converted, write_generated, write_markers, write_tree};
+use crate::reading::{read_named, read_script};
 use crate::telling::tell;
 use crate::words::{Order, read_words};
-use prof_io::{Files, Hall, Keeper, OutFault, Sink, Steps, Text};
+use prof_io::{Files, Hall, KeepRefusal, Keeper, NoMemory, OutFault, Sink, Steps, Text};
+use prof_read::Digest;
+use prof_script::{PlayEnd, play_script};
+use prof_session_desk::Desk;
+use prof_tables::Profile;
 use prof_words::WordRefusal;
 use std::alloc::Global;
 use std::sync::ledger::Ledger;
@@ -77,6 +84,68 @@ fn markers_of<F: Files, S: Sink, L: Ledger>(
     )
 }
 
+/// A desk that has this profile alone, as `main`.
+fn desk_of(alloc: Global, profile: Profile, digest: Digest) -> Result<Desk, NoMemory>
+    ensures { IfOk result (λ desk. desk ≡ record { profiles = named_main profile digest; seats = [] }) }
+{
+    let mut desk = Desk::new(alloc);
+    desk.add_profile(alloc, "main", profile, digest)?;
+    Ok(desk)
+}
+
+/// Begins the keeper without a name, and plays a script on a desk of a profile without sessions.
+fn play_begun<K: Keeper, S: Sink, L: Ledger>(
+    alloc: Global,
+    desk: &mut Desk,
+    script: &[u8],
+    keeper: &mut K,
+    out: &mut S,
+    reads: &mut Steps<L>,
+) -> Status
+    ensures ends { (p : ProfileTables) (digest : List ℕ) (form : Form) (name file : List ℕ)
+        → desk.old ≡ record { profiles = named_main p digest; seats = [] }
+        → EndsKeeping (Order.Script name file) (of_profile p digest form ∷ of_script script.now ∷ [])
+        (seen S.Counted out.old) (seen S.Counted out.new) reads.old reads.new
+        (kept K.Counted K.Keeper.own keeper.old) (kept K.Counted K.Keeper.own keeper.new) result }
+    ensures can { can_end (Order.Script [] []) result ≡ true }
+    ensures accepted { (result ≢ Status.Broken) × (result ≢ Status.FileFault) }
+{
+    match keeper.begin(alloc, "") {
+        Ok(()) => status_of(play_script(alloc, desk, script, keeper, out, reads)),
+        Err(KeepRefusal::Failed) => Status::KeeperFault,
+        Err(KeepRefusal::NoMemory) => Status::NoMemory,
+    }
+}
+
+/// Reads the profile and the script of these names, and writes the replies to the script's lines.
+fn script_of<F: Files, K: Keeper, S: Sink, L: Ledger>(
+    alloc: Global,
+    name: &str,
+    script: &str,
+    files: &mut F,
+    keeper: &mut K,
+    out: &mut S,
+    reads: &mut Steps<L>,
+) -> Outcome
+    ensures { DoesKeeping (Order.Script name.now script.now)
+        (outside F.Counted S.Counted files.old out.old reads.old)
+        (outside F.Counted S.Counted files.new out.new reads.new)
+        (kept K.Counted K.Keeper.own keeper.old) (kept K.Counted K.Keeper.own keeper.new) result }
+{
+    let (profile, digest, _) = match read_named(alloc, name, files) {
+        Ok(read) => read,
+        Err(stop) => return Outcome::stopped(0, stop),
+    };
+    let lines = match read_script(alloc, script, files) {
+        Ok(lines) => lines,
+        Err(stop) => return Outcome::stopped(1, stop),
+    };
+    let Ok(mut desk) = desk_of(alloc, profile, digest) else {
+        return Outcome::ended(2, Status::NoMemory);
+    };
+    Outcome::ended(2, play_begun(alloc, &mut desk, &lines, keeper, out, reads))
+}
+
 /// Reads the profile of that name, and writes its summary.
 fn check_of<F: Files, S: Sink, L: Ledger>(
     alloc: Global,
@@ -93,6 +162,24 @@ fn check_of<F: Files, S: Sink, L: Ledger>(
         Err(stop) => return Outcome::stopped(0, stop),
     };
     Outcome::ended(1, status_of(write_check(&profile, &digest, form, out)))
+}
+
+/// Reads the profile of that name, and writes it as a text.
+fn convert_of<F: Files, S: Sink, L: Ledger>(
+    alloc: Global,
+    name: &str,
+    files: &mut F,
+    out: &mut S,
+    reads: &mut Steps<L>,
+) -> Outcome
+    ensures { Does (Order.Convert name.now) (outside F.Counted S.Counted files.old out.old reads.old)
+        (outside F.Counted S.Counted files.new out.new reads.new) result }
+{
+    let (profile, _, _) = match read_named(alloc, name, files) {
+        Ok(read) => read,
+        Err(stop) => return Outcome::stopped(0, stop),
+    };
+    Outcome::ended(1, status_of(write_converted(&profile, out, reads)))
 }
 
 /// Writes the profile that the number makes.
@@ -140,7 +227,17 @@ fn carry_out<F: Files, H: Hall, K: Keeper, S: Sink, L: Ledger>(
             out,
             reads,
         ),
+        Order::Script { profile, script } => script_of(
+            alloc,
+            profile.as_str(),
+            script.as_str(),
+            files,
+            keeper,
+            out,
+            reads,
+        ),
         Order::Check { profile } => check_of(alloc, profile.as_str(), files, out, reads),
+        Order::Convert { profile } => convert_of(alloc, profile.as_str(), files, out, reads),
         Order::Gen { number } => gen_of(*number, files, out, reads),
     }
 }
@@ -152,6 +249,17 @@ fn only(name: &Text, accepted: usize) -> &str
     if accepted == 0 { name.as_str() } else { "" }
 }
 
+/// The name of a profile or of a script, where that is the next to be accepted.
+fn either<'a>(profile: &'a Text, script: &'a Text, accepted: usize) -> &'a str
+    ensures { result.now ≡ name_at ((a_profile, profile.now) ∷ (a_script, script.now) ∷ []) accepted }
+{
+    match accepted {
+        0 => profile.as_str(),
+        1 => script.as_str(),
+        _ => "",
+    }
+}
+
 /// The name of the file behind so many.
 fn name_behind(order: &Order, accepted: usize) -> &str
     ensures { result.now ≡ name_at (files_of order.now) accepted }
@@ -159,7 +267,9 @@ fn name_behind(order: &Order, accepted: usize) -> &str
     match order {
         Order::Tree { profile } => only(profile, accepted),
         Order::Markers { profile, .. } => only(profile, accepted),
+        Order::Script { profile, script } => either(profile, script, accepted),
         Order::Check { profile } => only(profile, accepted),
+        Order::Convert { profile } => only(profile, accepted),
         Order::Gen { .. } => "",
     }
 }

@@ -1,12 +1,13 @@
 // The tree of a thread that was just opened.
 ghost use Rattle.std.specs.Prelude.{◌≡◌, ◌+◌, ◌≤◌, [], length, IfOk};
-ghost use Rattle.prof_tree.specs.Views.{plain_tree, selected_weight, dropped_weight};
+ghost use Rattle.prof_view_tree.specs.Views.{plain_tree, selected_weight, dropped_weight};
 ghost use Rattle.prof_desk.specs.Output.{fresh};
 ghost use Rattle.prof_desk.specs.Replies.{HasFuncs};
 
 use prof_io::{NoMemory, Steps};
 use prof_tables::Thread;
-use prof_tree::{Tree, own_tree};
+use prof_tree::Tree;
+use prof_view_tree::own_tree;
 use std::alloc::Global;
 use std::sync::ledger::Ledger;
 

@@ -1,5 +1,5 @@
 // The answers to an order, over the profile that it reads.
-ghost use Rattle.std.specs.Prelude.{◌≡◌, ◌≤◌, ◌+◌, ◌++◌, codes, Some, Ok, Err, OnOk, OnErr};
+ghost use Rattle.std.specs.Prelude.{◌≡◌, ◌≤◌, ◌+◌, ◌*◌, ◌++◌, codes, Some, Ok, Err, OnOk, OnErr};
 ghost use Rattle.std.specs.Fmt.{decimal};
 ghost use Rattle.prof_desk.specs.Output.{first_rows, markers_replies, tree_replies, unopened};
 ghost use Rattle.prof_desk.specs.Playing.{Leaves, status_of};
@@ -10,6 +10,8 @@ ghost use Rattle.prof_reply.specs.Lines.{line};
 ghost use Rattle.prof_demo.specs.Generated.{generated};
 ghost use Rattle.prof_io.specs.Outside.{seen};
 ghost use Rattle.prof_io.specs.Sinks.{Wrote};
+ghost use Rattle.prof_write.specs.Compact.{compact};
+ghost use Rattle.prof_write.specs.Written.{profile_value, stack_rows};
 
 use crate::markers::markers_reply;
 use crate::own::opened_tree;
@@ -19,17 +21,11 @@ use prof_io::{OutFault, Sink, Steps};
 use prof_machine::{Refusal, Reply};
 use prof_read::{Digest, Form};
 use prof_reply::reply_text;
+use prof_script::PlayEnd;
 use prof_tables::{Profile, Thread};
+use prof_write::write_profile;
 use std::alloc::Global;
 use std::sync::ledger::Ledger;
-
-/// Why the answers stopped.
-#[derive(Clone, Copy, Debug, PartialEq, Eq)]
-pub enum PlayEnd {
-    /// The output counted a fault.
-    OutFault,
-    NoMemory,
-}
 
 /// How the answers ended by a text that was all that was left to write.
 fn played(written: Result<(), OutFault>) -> Result<(), PlayEnd>
@@ -112,6 +108,19 @@ pub fn write_check<S: Sink>(
         (summary_text profile.now digest.now form) }
 {
     played(write_summary(out, profile, digest, form))
+}
+
+/// Writes a profile as a text. Each stack row of each thread is read at most twice.
+pub fn write_converted<S: Sink, L: Ledger>(
+    profile: &Profile,
+    out: &mut S,
+    reads: &mut Steps<L>,
+) -> Result<(), PlayEnd>
+    ensures written { Leaves (seen S.Counted out.old) (seen S.Counted out.new) (status_of result)
+        (compact (profile_value profile.now)) }
+    ensures readings { reads.new ≤ reads.old + 2 * stack_rows profile.now.threads }
+{
+    played(write_profile(profile, out, reads))
 }
 
 /// Writes the text of the profile that the number makes.

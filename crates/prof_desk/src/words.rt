@@ -19,8 +19,17 @@ pub enum Order {
         thread: u32,
         search: Text,
     },
+    /// The replies to the lines of a script.
+    Script {
+        profile: Text,
+        script: Text,
+    },
     /// What a profile holds, in numbers.
     Check {
+        profile: Text,
+    },
+    /// A profile as a text in the one form that is written.
+    Convert {
         profile: Text,
     },
     /// A profile that is made by a number.
@@ -54,7 +63,9 @@ fn carried_out(order: prof_words::Order) -> Result<Order, WordRefusal>
             thread,
             search,
         }),
+        prof_words::Order::Script { profile, script } => Ok(Order::Script { profile, script }),
         prof_words::Order::Check { profile } => Ok(Order::Check { profile }),
+        prof_words::Order::Convert { profile } => Ok(Order::Convert { profile }),
         prof_words::Order::Gen { number } => Ok(Order::Gen { number }),
         _ => Err(WordRefusal::Usage),
     }

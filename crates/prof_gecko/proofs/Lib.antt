@@ -1,8 +1,9 @@
-pub mod Cuts
-pub mod Hex
-pub mod Libraries
-pub mod Alike
-pub mod Growing
-pub mod Numbers
-pub mod Hosts
+pub mod Folding
 pub mod Deriving
+pub mod Passes
+pub mod Passing
+pub mod Again
+pub mod Building
+pub mod Refusing
+pub mod Adding
+pub mod Walking

@@ -13,7 +13,7 @@ use Rattle.prof_raw.specs.Rules.{whole_fault, size_rule, counted_fault}
 use Rattle.prof_raw.specs.Checks.{first_of, named, first_column, needed_column, optional_column, samples_broken, markers_broken}
 use Rattle.prof_gecko.specs.declared.gathered.TableFault.{TableFault}
 use Rattle.prof_gecko.specs.Gathered.{Lib, GeckoCells}
-use Rattle.prof_gecko.specs.Lists.{Lists}
+use Rattle.prof_gecko_names.specs.Lists.{Lists}
 use Rattle.prof_gecko.specs.Columns.{FrameCells, StackCells, ThreadParts, parts_of}
 use Rattle.prof_gecko.specs.Converted.{lists_in}
 

@@ -1,5 +1,5 @@
 -- The columns of a Gecko thread by their names, with its times moved.
-use Rattle.std.specs.Prelude.{ℕ, ◌^◌, ◌-◌, ℤ, pos, negsuc, ◌+ℤ◌, unsigned_abs, min, List, false, if◌then◌else◌, Option, Some, nat_le, map}
+use Rattle.std.specs.Prelude.{ℕ, ◌^◌, ◌-◌, ℤ, pos, negsuc, ◌+ℤ◌, ◌-ℤ◌, unsigned_abs, min, List, false, if◌then◌else◌, Option, Some, nat_le, map}
 use Rattle.std.specs.Option.{option_map}
 use Rattle.prof_raw.specs.declared.limits.TheConstants.{GREATEST}
 use Rattle.prof_raw.specs.declared.raw.TableLength.TheVariants.{Unsaid}
@@ -7,6 +7,7 @@ use Rattle.prof_raw.specs.declared.raw.Unit.TheVariants as unit
 use Rattle.prof_raw.specs.declared.rule.ListFault.{ListFault}
 use Rattle.prof_raw.specs.Cells.{Cells, OwnCells}
 use Rattle.prof_gecko.specs.declared.gathered.TableFault.{TableFault}
+use Rattle.prof_gecko.specs.declared.shift.Shift.{Shift}
 use Rattle.prof_gecko.specs.Gathered.{TableCells, GeckoCells, column_at, no_column}
 
 -- the nearest number of 64 bits
@@ -21,6 +22,10 @@ moved shift n = if nat_le (unsigned_abs n) GREATEST then nearest_64 (n +ℤ shif
 -- a column of times
 abbrev pub moved_column : ℤ → Cells → Cells
 moved_column shift c = record { state = c.state; cells = map (option_map (moved shift)) c.cells; bad = c.bad }
+
+-- the times of a process are moved by its start less the root's
+abbrev pub shift_of : Shift → ℤ
+shift_of s = s.start -ℤ s.root
 
 -- the columns of frames
 pub record FrameCells : Type 0 where

@@ -7,13 +7,13 @@ use Rattle.prof_raw.specs.Cells.{Cells, cell, SharedCells}
 use Rattle.prof_raw.specs.CellValues.{index_of, truth_of}
 use Rattle.prof_tables.specs.Rows.{rows_of, shared_of, thread_of}
 use Rattle.prof_tables.specs.Threads.{ThreadTables}
-use Rattle.prof_gecko.specs.declared.func.Func.{Func}
-use Rattle.prof_gecko.specs.declared.func.FuncKey.{FuncKey}
-use Rattle.prof_gecko.specs.FirstUses.{Numbered, numbered}
+use Rattle.prof_gecko_names.specs.declared.func.Func.{Func}
+use Rattle.prof_gecko_names.specs.declared.func.FuncKey.{FuncKey}
+use Rattle.prof_gecko_names.specs.FirstUses.{Numbered, numbered}
 use Rattle.prof_gecko.specs.Gathered.{Lib, GeckoCells}
-use Rattle.prof_gecko.specs.Keys.{text_at, key_of, same_key}
-use Rattle.prof_gecko.specs.Naming.{named_of}
-use Rattle.prof_gecko.specs.Lists.{Lists, add_func, lists_over}
+use Rattle.prof_gecko_names.specs.Keys.{text_at, key_of, same_key}
+use Rattle.prof_gecko_names.specs.Naming.{named_of}
+use Rattle.prof_gecko_names.specs.Lists.{Lists, add_func, lists_over}
 use Rattle.prof_gecko.specs.Columns.{FrameCells, StackCells, ThreadParts, parts_of}
 
 -- the places of the frames' locations in the strings

@@ -4,13 +4,8 @@ use Rattle.prof_raw.specs.declared.raw.State.TheVariants.{Absent}
 use Rattle.prof_raw.specs.declared.rule.Rule.{Rule}
 use Rattle.prof_raw.specs.declared.rule.ListFault.{ListFault}
 use Rattle.prof_raw.specs.Cells.{Cells}
+pub use Rattle.prof_gecko_names.specs.Libraries.{Lib}
 use Rattle.prof_gecko.specs.declared.gathered.TableFault.{TableFault}
-
--- a library: the addresses from its start on, and below its end
-pub record Lib : Type 0 where
-  pub name : List ℕ
-  pub start : ℕ
-  pub end : ℕ
 
 -- the columns of a table in their written order, and the first check of the table, its schema and its data that fails
 pub record TableCells : Type 0 where

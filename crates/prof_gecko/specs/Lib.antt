@@ -1,14 +1,8 @@
-pub mod Cutting
-pub mod Locations
-pub mod Shown
-pub mod FirstUses
 pub mod Gathered
 pub mod Inside
-pub mod Keys
-pub mod Naming
-pub mod Lists
 pub mod Columns
 pub mod Fits
 pub mod Converted
 pub mod Checks
 pub mod Processes
+pub mod Work

@@ -5,7 +5,7 @@ ghost use Rattle.prof_gecko.specs.Checks.{table_broken, frames_broken, stacks_br
 
 use crate::columns::{FrameColumns, StackColumns, ThreadColumns};
 use crate::gathered::TableFault;
-use crate::lists::FuncLists;
+use prof_gecko_names::FuncLists;
 use prof_raw::{
     Broken, CellKind, Column, MOST_FUNCS, MOST_ROWS, MOST_STRINGS, Place, Size, Table,
     check_markers, check_samples, counted_fault, first_column, needed_column, optional_column,

@@ -1,10 +1,12 @@
 //! The columns of a Gecko thread by their names.
 ghost use Rattle.std.specs.Prelude.{◌≡◌, ◌≢◌, ℕ, slice_index_or};
 ghost use Rattle.prof_gecko.specs.Gathered.{no_column};
-ghost use Rattle.prof_gecko.specs.Columns.{frame_cells, stack_cells};
+ghost use Rattle.prof_gecko.specs.Columns.{frame_cells, stack_cells, moved_column, parts_of, shift_of};
 
-use crate::gathered::{GeckoTable, TableFault};
-use prof_raw::{ListFault, RawColumn, RawOwn, State, Strings};
+use crate::gathered::{GeckoTable, GeckoThread, TableFault};
+use crate::shift::Shift;
+use prof_io::Text;
+use prof_raw::{ListFault, RawColumn, RawOwn, State, Strings, TableLength, Unit};
 use std::alloc::Global;
 use std::marker::Model;
 use std::rc::Rc;
@@ -128,6 +130,103 @@ impl StackColumns {
             fault: table.fault,
             frame,
             prefix,
+        }
+    }
+}
+
+/// The columns of samples.
+#[derive(Drop)]
+struct SampleColumns {
+    stack: RawColumn,
+    time: RawColumn,
+}
+
+impl SampleColumns {
+    fn of(alloc: Global, shift: Shift, mut columns: Vec<RawColumn>) -> Self
+        ensures stack { result.stack ≡ slice_index_or columns.items 0 no_column }
+        ensures time { result.time
+            ≡ moved_column (shift_of shift) (slice_index_or columns.items 1 no_column) }
+    {
+        let stack = take_column(alloc, &mut columns, 0);
+        let time = take_column(alloc, &mut columns, 1);
+        SampleColumns {
+            stack,
+            time: shift.moved_column(time),
+        }
+    }
+}
+
+/// The columns of markers.
+#[derive(Drop)]
+struct MarkerColumns {
+    phase: RawColumn,
+    name: RawColumn,
+    start: RawColumn,
+    end: RawColumn,
+    details: RawColumn,
+}
+
+impl MarkerColumns {
+    fn of(alloc: Global, shift: Shift, mut columns: Vec<RawColumn>) -> Self
+        ensures phase { result.phase ≡ slice_index_or columns.items 0 no_column }
+        ensures name { result.name ≡ slice_index_or columns.items 1 no_column }
+        ensures start { result.start
+            ≡ moved_column (shift_of shift) (slice_index_or columns.items 2 no_column) }
+        ensures end { result.end
+            ≡ moved_column (shift_of shift) (slice_index_or columns.items 3 no_column) }
+        ensures details { result.details ≡ slice_index_or columns.items 4 no_column }
+    {
+        let phase = take_column(alloc, &mut columns, 0);
+        let name = take_column(alloc, &mut columns, 1);
+        let start = take_column(alloc, &mut columns, 2);
+        let end = take_column(alloc, &mut columns, 3);
+        let details = take_column(alloc, &mut columns, 4);
+        MarkerColumns {
+            phase,
+            name,
+            start: shift.moved_column(start),
+            end: shift.moved_column(end),
+            details,
+        }
+    }
+}
+
+impl ThreadColumns {
+    /// The columns of a thread, whose times are moved.
+    #[tactic(auto, unfolding(crate::specs::Columns::parts_of))]
+    pub(crate) fn of(alloc: Global, shift: Shift, thread: GeckoThread) -> Self
+        ensures { result ≡ parts_of (shift_of shift) thread }
+    {
+        let samples_fault = thread.samples.fault;
+        let markers_fault = thread.markers.fault;
+        let samples = SampleColumns::of(alloc, shift, thread.samples.columns);
+        let markers = MarkerColumns::of(alloc, shift, thread.markers.columns);
+        let own = RawOwn {
+            name: thread.name,
+            sample_stack: samples.stack,
+            sample_time: samples.time,
+            deltas: false,
+            unit: Some(Unit::Samples),
+            sample_weight: no_column(alloc),
+            sample_length: TableLength::Unsaid,
+            has_markers: thread.has_markers,
+            marker_phase: markers.phase,
+            marker_name: markers.name,
+            marker_start: markers.start,
+            marker_end: markers.end,
+            marker_data: markers.details,
+            marker_length: TableLength::Unsaid,
+            marker_texts: thread.marker_texts,
+            marker_ranges: thread.marker_ranges,
+        };
+        ThreadColumns {
+            strings: thread.strings,
+            string_fault: thread.string_fault,
+            frames: FrameColumns::of(alloc, thread.frame),
+            stacks: StackColumns::of(alloc, thread.stack),
+            samples_fault,
+            markers_fault,
+            own,
         }
     }
 }

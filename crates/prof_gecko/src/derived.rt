@@ -1,16 +1,12 @@
 //! The strings, resources and functions that a thread's frames stand for.
 ghost use Rattle.std.specs.Prelude.{◌≡◌, ◌<◌, ◌≤◌, length, IfOk, All, map, string_bytes};
-ghost use Rattle.prof_gecko.specs.Keys.{text_at};
-ghost use Rattle.prof_gecko.specs.Naming.{named_of};
+ghost use Rattle.prof_gecko_names.specs.Keys.{text_at};
+ghost use Rattle.prof_gecko_names.specs.Naming.{named_of};
 ghost use Rattle.prof_gecko.specs.Converted.{locations, lists_of, lists_in, numbering_in};
 ghost use Rattle.prof_gecko.specs.Fits.{FitLocations};
 
 use crate::columns::FrameColumns;
-use crate::gathered::Lib;
-use crate::keys::location_keys;
-use crate::lists::FuncLists;
-use crate::naming::{NamedFunc, named_of};
-use crate::numbering::number_by_first_use;
+use prof_gecko_names::{FuncLists, Lib, NamedFunc, location_keys, named_of, number_by_first_use};
 use prof_io::NoMemory;
 use prof_raw::cells::{cell, index, truth};
 use prof_raw::{RawColumn, Strings};

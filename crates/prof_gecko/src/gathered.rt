@@ -1,5 +1,6 @@
 //! A Gecko profile as it is gathered, before any check.
 
+use prof_gecko_names::Lib;
 use prof_io::Text;
 use prof_raw::{Column, ListFault, RawColumn, Rule, Strings};
 use std::marker::Model;
@@ -25,22 +26,6 @@ impl Model for GeckoTable {
     ghost Value = { TableCells };
 
     ghost view = { λ t. record { fault = t.fault; columns = t.columns.items } };
-}
-
-/// A library: the addresses from its start on, and below its end.
-#[derive(Drop)]
-pub struct Lib {
-    pub name: Text,
-    pub start: u64,
-    pub end: u64,
-}
-
-impl Model for Lib {
-    ghost use Rattle.prof_gecko.specs.Gathered.{Lib as LibCells};
-
-    ghost Value = { LibCells };
-
-    ghost view = { λ l. record { name = l.name; start = l.start; end = l.end } };
 }
 
 /// A thread. `has_markers` says that the table of the markers counts. A marker's texts are its range of `marker_texts`;

@@ -1,17 +1,18 @@
 //! Gecko profiles, as Firefox itself writes them.
 #![tactic(auto)]
 
-mod address;
 mod check;
 mod columns;
 mod derived;
-mod func;
 mod gathered;
-mod keys;
-mod lists;
-mod location;
-mod naming;
-mod numbering;
+mod process;
+mod profile;
+mod shared;
+mod shift;
+mod thread;
+mod work;
 
-pub use gathered::{GeckoProcess, GeckoProfile, GeckoTable, GeckoThread, Lib, TableFault};
-pub use location::{Location, classify};
+pub use gathered::{GeckoProcess, GeckoProfile, GeckoTable, GeckoThread, TableFault};
+pub use prof_gecko_names::Lib;
+pub use prof_location::{Location, classify};
+pub use profile::convert;

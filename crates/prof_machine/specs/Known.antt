@@ -13,7 +13,7 @@ use Rattle.prof_marker.specs.Markers.{pair}
 use Rattle.prof_marker.specs.Found.{is_found, spans}
 use Rattle.prof_tree.specs.Nodes.{node_limit}
 use Rattle.prof_tree.specs.Trees.{TreeLists}
-use Rattle.prof_tree.specs.Views.{plain_tree, inverted_tree, selected_weight, dropped_weight}
+use Rattle.prof_view_tree.specs.Views.{plain_tree, inverted_tree, selected_weight, dropped_weight}
 
 -- the threads of a profile, and the digest of its text
 pub record Known : Type 0 where

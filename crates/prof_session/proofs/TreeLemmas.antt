@@ -6,7 +6,7 @@ use Rattle.prof_path.specs.Views.{ViewLists}
 use Rattle.prof_tree.specs.declared.node.Node.{Node}
 use Rattle.prof_tree.specs.Nodes.{node_limit}
 use Rattle.prof_tree.specs.Trees.{TreeLists}
-use Rattle.prof_tree.specs.Views.{plain_tree, inverted_tree, selected_weight, dropped_weight}
+use Rattle.prof_view_tree.specs.Views.{plain_tree, inverted_tree, selected_weight, dropped_weight}
 use Rattle.prof_machine.specs.declared.refusal.Refusal.TheVariants.{TooManyNodes}
 use Rattle.prof_machine.specs.declared.refusal.Reply.TheVariants.{Inverted, Refused}
 use Rattle.prof_machine.specs.Known.{intervals, tree_of, inverted_of}

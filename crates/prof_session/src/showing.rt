@@ -13,7 +13,8 @@ use prof_io::{NoMemory, Steps};
 use prof_machine::{KnownProfile, Refusal, Reply, intervals_of, markers_of};
 use prof_path::is_long_search;
 use prof_request::Command;
-use prof_tree::{InvertRefusal, inverted, plain};
+use prof_tree::InvertRefusal;
+use prof_view_tree::{inverted, plain};
 use std::alloc::Global;
 use std::sync::ledger::Ledger;
 

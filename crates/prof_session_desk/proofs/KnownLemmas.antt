@@ -29,7 +29,7 @@ use Rattle.prof_path.specs.Views.{ViewLists}
 use Rattle.prof_tree.specs.declared.node.Node.{Node}
 use Rattle.prof_tree.specs.Nodes.{Weighed, nodes_of, reversed, at_roots}
 use Rattle.prof_tree.specs.Trees.{TreeLists}
-use Rattle.prof_tree.specs.Views.{finals, plain_tree, inverted_tree, selected_samples}
+use Rattle.prof_view_tree.specs.Views.{finals, plain_tree, inverted_tree, selected_samples}
 use Rattle.prof_tree.proofs.Known.{nodes_of-known}
 use Rattle.prof_marker.specs.Found.{is_found}
 use Rattle.prof_io.specs.Named.{value_at}

@@ -12,16 +12,3 @@ pub mod Balance
 pub mod Counting
 pub mod Known
 pub mod Adding
-pub mod Alike
-pub mod Masses
-pub mod Standing
-pub mod Lifting
-pub mod Gathering
-pub mod Sampled
-pub mod RowByRow
-pub mod ShownRows
-pub mod FoundRows
-pub mod FinalRows
-pub mod Behind
-pub mod Entries
-pub mod Coming

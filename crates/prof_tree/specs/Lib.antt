@@ -1,13 +1,6 @@
 pub mod Nodes
 pub mod Trees
-pub mod Views
-pub mod Showing
-pub mod Examples
 pub mod Forest
 pub mod Ranks
 pub mod Growing
 pub mod Building
-pub mod Weighing
-pub mod Sprouting
-pub mod Climbing
-pub mod Groups

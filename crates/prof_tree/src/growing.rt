@@ -13,7 +13,7 @@ use prof_path::{Step, StepList};
 use std::alloc::{AllocError, Global};
 use std::collections::HashMap;
 
-// How many nodes an inverted tree may have.
+/// How many nodes an inverted tree may have.
 pub const NODE_LIMIT: u64 = 4_194_304;
 
 /// The row of each child, by its parent's row and its function.
@@ -37,7 +37,8 @@ fn step_from(path: &[Step], from: End, distance: usize) -> Step
     }
 }
 
-/// The row of a step below a row, which is added where it isn't there.
+/// The row of a step below a row, or among the roots, which is added where it isn't there, with no weight. `depth` is that of
+/// the row, 0 at a root. Only want of memory refuses it.
 pub fn child(
     rows: &mut Vec<Branch>,
     index: &mut Index,
@@ -68,7 +69,7 @@ pub fn child(
     Ok(row)
 }
 
-/// Adds a weight and the category of a step to a row.
+/// Adds a weight to the total of a row, and the category of a step to those of its steps.
 pub fn add_total(rows: &mut Vec<Branch>, row: u32, step: Step, weight: i128)
     requires row { row < length rows.old.items }
     requires fits { FitsSigned w128 ((branch rows.old.items row).total +ℤ weight) }
@@ -166,6 +167,7 @@ pub fn grown_backward(
     Ok(rows)
 }
 
+/// A sum with one more weight.
 pub fn plus(sum: i128, weight: i64) -> i128
     requires { FitsSigned w128 (sum +ℤ weight) }
     ensures { result ≡ sum +ℤ weight }

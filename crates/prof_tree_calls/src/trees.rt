@@ -11,7 +11,8 @@ use prof_path::{
     terms, visible,
 };
 use prof_tables::Thread;
-use prof_tree::{InvertRefusal, Node, Tree, inverted, of_paths, of_reversed, plain};
+use prof_tree::{InvertRefusal, Node, Tree, of_paths, of_reversed};
+use prof_view_tree::{inverted, plain};
 use prof_worked::{Change, spans_of, text_of, thread_of, transform_of};
 use std::alloc::Global;
 use std::marker::Brand;

@@ -29,7 +29,7 @@ fn words_of(rt: &HostRuntime) -> Result<Vec<String>, WordRefusal> {
 }
 
 /// Runs the desk over the system's files and streams, with a counter of readings of its own. No command that there is
-/// asks for a hall or a keeper, so both stand empty in memory.
+/// asks for a hall, and none for texts that are kept past its run, so the hall and the keeper stand empty in memory.
 fn run_counted<L: Ledger>(rt: &HostRuntime, words: &[String], blank: Blank) -> Status
     requires name { blank.name ≡ L.name }
     requires parts { blank.parts ≡ L.parts }

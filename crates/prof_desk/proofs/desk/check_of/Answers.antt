@@ -16,4 +16,4 @@ pub returns : goal.returns
 returns g c =
     let old = outside g.F.Counted g.S.Counted c.args.files.now c.args.out.now c.args.reads.now in
     rw (c.ended.ensures, c.status_of.ensures) (answers_one (Check c.args.name.now) old (seen g.F.Counted c.read_named.new.files) (seen g.S.Counted c.write_check.new.out) c.args.reads.now 0
-    profile_input a_profile c.args.name.now _ c.write_check.result refl refl refl c.in-Ok.ensures c.write_check.ensures (omega arith) (omega arith))
+    profile_input a_profile c.args.name.now _ c.write_check.result refl refl refl c.in-Ok.ensures c.write_check.ensures (omega arith) (omega arith) tt)

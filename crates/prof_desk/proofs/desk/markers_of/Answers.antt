@@ -16,4 +16,4 @@ pub returns : goal.returns
 returns g c =
     let old = outside g.F.Counted g.S.Counted c.args.files.now c.args.out.now c.args.reads.now in
     rw (c.ended.ensures, c.status_of.ensures) (answers_one (Markers c.args.name.now c.args.thread c.args.search.now) old (seen g.F.Counted c.read_named.new.files) (seen g.S.Counted c.write_markers.new.out) c.args.reads.now 0
-    profile_input a_profile c.args.name.now _ c.write_markers.result refl refl refl c.in-Ok.ensures c.write_markers.ensures (omega arith) (omega arith))
+    profile_input a_profile c.args.name.now _ c.write_markers.result refl refl refl c.in-Ok.ensures c.write_markers.ensures (omega arith) (omega arith) tt)

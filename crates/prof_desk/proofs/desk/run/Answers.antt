@@ -1,4 +1,4 @@
-use Rattle.std.proofs.Common.{◌≡◌, Err, refl, []}
+use Rattle.std.proofs.Common.{refl}
 use Rattle.prof_io.specs.Outside.{kept, seen}
 use Rattle.prof_desk.specs.Ran.{outside}
 use Rattle.prof_desk.proofs.Carrying.{of_order, of_refused, ran_out, refused_by, refused_none}

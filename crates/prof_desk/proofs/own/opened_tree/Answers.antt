@@ -1,4 +1,4 @@
-use Rattle.std.proofs.Common.{◌≡◌, sym, ap, ◌∙◌}
+use Rattle.std.proofs.Common.{sym, ap, ◌∙◌}
 use Rattle.prof_tree.specs.Nodes.{nodes_of, total, dropped_of}
 use Rattle.prof_desk.proofs.Fresh.{finals-fresh}
 use Rattle.prof_desk.proofs.OwnTree.{tree_funcs}

@@ -1,6 +1,5 @@
-use Rattle.std.proofs.Common.{◌≡◌, ◌∙◌, List, [], map, ap, sym}
+use Rattle.std.proofs.Common.{◌≡◌, ◌∙◌, [], map, ap, sym}
 use Rattle.prof_tables.specs.Profiles.{ProfileTables}
-use Rattle.prof_tables.specs.Threads.{ThreadTables}
 use Rattle.prof_desk.proofs.Held.{leaves_played, nothing_held, value}
 use Rattle.prof_desk.proofs.playing.write_tree.Goals as goal
 

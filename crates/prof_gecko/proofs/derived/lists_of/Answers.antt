@@ -1,10 +1,10 @@
 use Rattle.std.proofs.Common.{◌+◌, ◌*◌, ◌<◌, length, take, get_or, ◌∙◌, ap, arith}
 use Rattle.std.proofs.lemmas.List.{take_more}
 use Rattle.prof_raw.specs.CellValues.{truth_of}
-use Rattle.prof_gecko.specs.Keys.{text_at}
-use Rattle.prof_gecko.specs.Naming.{named_of}
-use Rattle.prof_gecko.specs.Lists.{Lists, add_func}
-use Rattle.prof_gecko.proofs.Growing.{grows_length}
+use Rattle.prof_gecko_names.specs.Keys.{text_at}
+use Rattle.prof_gecko_names.specs.Naming.{named_of}
+use Rattle.prof_gecko_names.specs.Lists.{Lists, add_func}
+use Rattle.prof_gecko_names.proofs.Growing.{grows_length}
 use Rattle.prof_gecko.proofs.Deriving.{rows_none, rows_more}
 use Rattle.prof_gecko.proofs.derived.lists_of.Goals as goal
 

@@ -2,7 +2,7 @@ use Rattle.std.proofs.Common.{◌≡◌, ℕ, ◌<◌, List, length, map, sym, �
 use Rattle.std.specs.List.{All}
 use Rattle.std.proofs.lemmas.List.{length-map}
 use Rattle.std.proofs.lemmas.List.Elements.{All-weaker}
-use Rattle.prof_gecko.specs.Keys.{key_of}
+use Rattle.prof_gecko_names.specs.Keys.{key_of}
 use Rattle.prof_gecko.specs.Columns.{FrameCells}
 use Rattle.prof_gecko.proofs.Deriving.{rows_ready, derived_lists, derived_numbers}
 use Rattle.prof_gecko.proofs.derived.Derived.of.Goals as goal

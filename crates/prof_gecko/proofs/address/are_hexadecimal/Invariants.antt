@@ -1,7 +1,0 @@
-use Rattle.std.proofs.Common.{◌≡◌, true, take}
-use Rattle.std.specs.List.{list_all}
-use Rattle.prof_gecko.specs.Locations.{is_hexadecimal}
-use Rattle.prof_gecko.proofs.address.are_hexadecimal.Given as goal
-
-abbrev pub invariant-loop-c : goal.invariant-loop-c
-invariant-loop-c l = list_all is_hexadecimal (take l.c-index l.text) ≡ true

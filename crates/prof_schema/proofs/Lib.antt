@@ -1,0 +1,12 @@
+pub mod Begun
+pub mod Entries
+pub mod Examples
+pub mod FieldTexts
+pub mod KeptCells
+pub mod KeptNumbers
+pub mod PlacedCells
+pub mod RowLists
+pub mod SameNumbers
+pub mod Schemas
+pub mod Slots
+pub mod Tables

@@ -1,0 +1,4 @@
+pub mod Statuses
+pub mod Errands
+pub mod Answers
+pub mod Serving

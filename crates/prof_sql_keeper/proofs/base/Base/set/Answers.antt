@@ -1,0 +1,5 @@
+use Rattle.std.proofs.Common.{refl}
+use Rattle.prof_sql_keeper.proofs.base.Base.set.Goals as goal
+
+pub returns-in-Stored : goal.returns-in-Stored
+returns-in-Stored c = rw c.in-Stored.is (refl, c.set_text-in-Stored.ensures)

@@ -1,0 +1,4 @@
+pub mod Table
+pub mod Bases
+pub mod Refusals
+pub mod Keepers

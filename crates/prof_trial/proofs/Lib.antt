@@ -1,0 +1,4 @@
+pub mod Causes
+pub mod Firsts
+pub mod Lines
+pub mod Whole

@@ -1,0 +1,13 @@
+pub mod Alike
+pub mod Masses
+pub mod Standing
+pub mod Lifting
+pub mod Gathering
+pub mod Sampled
+pub mod RowByRow
+pub mod ShownRows
+pub mod FoundRows
+pub mod FinalRows
+pub mod Behind
+pub mod Entries
+pub mod Coming
