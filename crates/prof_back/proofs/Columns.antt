@@ -39,6 +39,11 @@ rows_back read cell told [] h = refl
 rows_back read cell told (r ∷ rows) h =
     ap (λ (c : Cell). c ∷ map read (map cell rows)) (h 0 r refl) ∙ ap (λ (l : List Cell). passed (told r) ∷ l) (rows_back read cell told rows (λ i s e. h (suc i) s e))
 
+-- a column of them
+pub cells_back : {A : Type 0} (read : Value → Cell) (needed : Bool) (cell : A → Value) (told : A → Option ℤ) (rows : List A) →
+    ((i : ℕ) (r : A) → slice_get rows i ≡ Some r → read (cell r) ≡ passed (told r)) → column_of read needed (Some (column cell rows)) ≡ column_with (map told rows)
+cells_back read needed cell told rows h = column_back read needed (map cell rows) (map told rows) (rows_back read cell told rows h)
+
 -- ---- lists
 
 first_fits : (fits : Value → Bool) (row : ℕ) (vs : List Value) → AllByRecursion (λ v. fits v ≡ true) vs → first_where (λ v. not (fits v)) row vs ≡ None

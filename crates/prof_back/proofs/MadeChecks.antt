@@ -1,6 +1,6 @@
 -- The value of the text that a number makes breaks no rule.
-use Rattle.std.proofs.Common.{◌≡◌, ◌∙◌, ℕ, zero, suc, ◌-◌, ◌*◌, ◌^◌, ◌<◌, ◌≤◌, List, [], ◌∷◌, codes, Bool, true, false, Option, None, Some, length, refl, sym, ap, subst, arith}
-use Rattle.std.specs.Prelude.{ℤ, pos, IfSome, ◌==◌, if◌then◌else◌, map, nat_le, nat_lt, slice_get}
+use Rattle.std.proofs.Common.{◌≡◌, ◌∙◌, ℕ, zero, suc, ◌-◌, ◌^◌, ◌<◌, List, [], ◌∷◌, codes, Bool, true, false, Option, None, Some, length, refl, sym, ap, subst, arith}
+use Rattle.std.specs.Prelude.{ℤ, pos, IfSome, ◌==◌, if◌then◌else◌, map, nat_lt, slice_get}
 use Rattle.std.specs.List.{AllByRecursion}
 use Rattle.std.specs.Option.{option_map, option_or}
 use Rattle.std.proofs.lemmas.Bool.Decides.{nat_tests}
@@ -8,7 +8,7 @@ use Rattle.std.proofs.lemmas.Int.{ints}
 use Rattle.prof_demo.specs.Generated.{below}
 use Rattle.prof_raw.specs.declared.column.CellKind.TheVariants as kind
 use Rattle.prof_raw.specs.declared.column.Size.TheVariants.{AtMost, Same}
-use Rattle.prof_raw.specs.declared.limits.TheConstants.{GREATEST, MOST_ROWS, MOST_SAMPLES}
+use Rattle.prof_raw.specs.declared.limits.TheConstants.{MOST_ROWS, MOST_SAMPLES}
 use Rattle.prof_raw.specs.declared.raw.State.TheVariants.{Array}
 use Rattle.prof_raw.specs.declared.raw.TableLength.TheVariants.{Unsaid}
 use Rattle.prof_raw.specs.declared.raw.Unit.TheVariants as unit
@@ -17,7 +17,7 @@ use Rattle.prof_raw.specs.declared.rule.Column.TheVariants as column
 use Rattle.prof_raw.specs.Cells.{Cells, OwnCells, SharedCells}
 use Rattle.prof_raw.specs.Checks.{frames_broken, funcs_broken, markers_broken, named, own_broken, resources_broken, samples_broken, shared_broken, stacks_broken, strings_broken, thread_broken}
 use Rattle.prof_raw.specs.Moments.{time_fault, time_name, time_rule}
-use Rattle.prof_raw.specs.Rules.{cell_rule, column_fault, index_rule, range_rule}
+use Rattle.prof_raw.specs.Rules.{cell_rule, column_fault}
 use Rattle.prof_tables.specs.Ties.{InRange}
 use Rattle.prof_layout.specs.declared.reading.Reading.TheVariants as reading
 use Rattle.prof_layout.specs.Columns.{absent, column_of, read_cell}
@@ -29,7 +29,7 @@ use Rattle.prof_back.specs.Made.{eight, frame_of, made, moment_of, names, prefix
 use Rattle.prof_back.proofs.Below.{at_below, length_below}
 use Rattle.prof_back.proofs.Cells.{index_back, maybe_index_back, time_back}
 use Rattle.prof_back.proofs.Columns.{column_back, length_map, rows_back}
-use Rattle.prof_back.proofs.Passing.{as_many, cells_pass, column_passes, none_both, none_or, rows_pass, within_most}
+use Rattle.prof_back.proofs.Passing.{as_many, cells_pass, column_passes, index_passes, none_both, none_or, range_passes, rows_pass, within_most}
 
 -- ---- what is gathered of the columns
 
@@ -179,15 +179,9 @@ own_raw n =
 
 -- ---- the checks
 
-index_passes : (limit m : ℕ) → m < limit → index_rule limit (pos m) ≡ None
-index_passes limit m h = let test : nat_lt m limit ≡ true = grind (arith, nat_tests) in rw test refl
-
-range_passes : (m : ℕ) → m ≤ GREATEST → range_rule (pos m) ≡ None
-range_passes m h = let test : nat_le m GREATEST ≡ true = grind (arith, nat_tests) in rw test refl
-
-prefix_passes : (i r : ℕ) → r ≡ i → (t : Bool) → (r == 0) ≡ t → cell_rule kind.Prefix i (option_map pos (let o : Option ℕ = if t then None else Some (r - 1) in o)) ≡ None
-prefix_passes i r e true t = refl
-prefix_passes i r e false t = let test : nat_lt (r - 1) i ≡ true = grind (arith, nat_tests) in rw test refl
+row_before_passes : (i r : ℕ) → r ≡ i → (t : Bool) → (r == 0) ≡ t → cell_rule kind.Prefix i (option_map pos (let o : Option ℕ = if t then None else Some (r - 1) in o)) ≡ None
+row_before_passes i r e true t = refl
+row_before_passes i r e false t = let test : nat_lt (r - 1) i ≡ true = grind (arith, nat_tests) in rw test refl
 
 abbrev made_shared : SharedCells
 made_shared = shared_with func_cells frame_cells prefix_cells
@@ -200,7 +194,7 @@ frame_column =
 prefix_column : column_fault true (Same (length frame_cells.cells)) kind.Prefix prefix_cells ≡ None
 prefix_column =
     column_passes true (Same (length frame_cells.cells)) kind.Prefix prefix_told (below 60000) (as_many (length (below 60000)) (length frame_cells.cells) (sym (length_map frame_told (below 60000))))
-    (λ i r e. let at = at_below 60000 i r e in prefix_passes i r at.0 (r == 0) refl)
+    (λ i r e. let at = at_below 60000 i r e in row_before_passes i r at.0 (r == 0) refl)
 
 stacks_pass : stacks_broken (Some 0) made_shared ≡ None
 unfolding stacks_broken
@@ -236,7 +230,7 @@ time_column : (rows : ℕ) → rows ≡ 200000 → time_fault false rows time_ce
 time_column rows h =
     rows_pass (Same rows) (time_rule false None (map time_told (below 200000))) (length (map time_told (below 200000)))
     (as_many (length (map time_told (below 200000))) rows (length_map time_told (below 200000) ∙ length_below 200000 ∙ sym h))
-    (cells_pass (λ i o. cell_rule kind.Number i o ≡ None) time_told (below 200000) (λ i r e. let at = at_below 200000 i r e in range_passes (1000 * r) (omega (arith, at.0, at.1))))
+    (cells_pass (λ i o. cell_rule kind.Number i o ≡ None) time_told (below 200000) (λ i r e. let at = at_below 200000 i r e in range_passes (moment_of r) (moment_in r (omega (arith, at.0, at.1)))))
 
 samples_pass : (n rows : ℕ) → rows ≡ 60000 → samples_broken (Some 0) rows (own_with (stack_cells n) time_cells) ≡ None
 unfolding samples_broken

@@ -20,7 +20,7 @@ use Rattle.prof_write.specs.Cells.{column, maybe_index, time, weight, weight_typ
 use Rattle.prof_write.specs.Written.{thread_value}
 use Rattle.prof_back.specs.Gathered.{column_with}
 use Rattle.prof_back.proofs.Cells.{maybe_index_back, time_back, unit_back, weight_back}
-use Rattle.prof_back.proofs.Columns.{column_back, rows_back, length_map}
+use Rattle.prof_back.proofs.Columns.{cells_back, length_map}
 
 -- ---- rows by their numbers
 
@@ -52,13 +52,13 @@ small n h (Some x) i = omega arith
 abbrev row_of : Cells → Cells → Cells → ℕ → SampleRow
 row_of stacks times weights k = record { stack = index_or_none (cell stacks k); time = time_of false times k; weight = weight_in weights.state weights.cells k }
 
-abbrev stack_told : SampleRow → Option ℤ
+abbrev pub stack_told : SampleRow → Option ℤ
 stack_told s = option_map pos s.stack
 
-abbrev time_told : SampleRow → Option ℤ
+abbrev pub time_told : SampleRow → Option ℤ
 time_told s = Some s.time
 
-abbrev weight_told : SampleRow → Option ℤ
+abbrev pub weight_told : SampleRow → Option ℤ
 weight_told s = Some s.weight
 
 pub option_back : (o : Option ℕ) → index_or_none (option_map pos o) ≡ o
@@ -88,27 +88,34 @@ rows_from rows stacks times weights a b c =
     ∙ (ap (λ (x : Cells). rows_of (row_of first second x) (length (map stack_told rows))) c
     ∙ (ap (λ (n : ℕ). rows_of (row_of first second third) n) (length_map stack_told rows) ∙ rows_of_same (row_of first second third) rows (sample_back rows))))
 
+pub sample_within : (t : ThreadTables) → AreOwn t → (i : ℕ) (s : SampleRow) → slice_get t.samples i ≡ Some s → IsSample (length t.shared.stacks) s
+sample_within t own i s e = all_at (IsSample (length t.shared.stacks)) t.samples i s own.samples e
+
+pub stacks_back : (t : ThreadTables) → AreTied t.shared → AreOwn t →
+    column_of (read_cell reading.MaybeIndex) true (Some (column (λ (s : SampleRow). maybe_index s.stack) t.samples)) ≡ column_with (map stack_told t.samples)
+stacks_back t tied own =
+    let few : length t.shared.stacks ≤ 4194304 = tied.few_stacks in
+    cells_back (read_cell reading.MaybeIndex) true (λ (s : SampleRow). maybe_index s.stack) stack_told t.samples
+    (λ i s e. maybe_index_back s.stack (small (length t.shared.stacks) (omega arith) s.stack (sample_within t own i s e).stack))
+
+pub moments_back : (t : ThreadTables) → AreOwn t → column_of (read_cell reading.Time) false (Some (column (λ (s : SampleRow). time s.time) t.samples)) ≡ column_with (map time_told t.samples)
+moments_back t own = cells_back (read_cell reading.Time) false (λ (s : SampleRow). time s.time) time_told t.samples (λ i s e. time_back s.time (sample_within t own i s e).time)
+
+pub weights_back : (t : ThreadTables) → AreOwn t →
+    column_of (read_cell (weight_reading (weight_unit (Some (string (weight_type t.unit)))))) false (Some (column (λ (s : SampleRow). weight t.unit s.weight) t.samples)) ≡ column_with (map weight_told t.samples)
+weights_back t own =
+    let size : SampleRow → Value = λ s. weight t.unit s.weight in
+    ap (λ (u : Option WeightUnit). column_of (read_cell (weight_reading u)) false (Some (column size t.samples))) (unit_back t.unit)
+    ∙ cells_back (read_cell (weight_reading (Some t.unit))) false size weight_told t.samples (λ i s e. weight_back t.unit s.weight (sample_within t own i s e).weight)
+
 pub samples_back : (t : ThreadTables) → AreTied t.shared → AreOwn t → samples_of (raw_own (thread_value t)) ≡ t.samples
 unfolding samples_of raw_own
 samples_back t tied own =
-    let rows : List SampleRow = t.samples in
-    let few : length t.shared.stacks ≤ 4194304 = tied.few_stacks in
-    let sample_at : (i : ℕ) (s : SampleRow) → slice_get rows i ≡ Some s → IsSample (length t.shared.stacks) s = λ i s e. all_at (IsSample (length t.shared.stacks)) rows i s own.samples e in
-    let stack : SampleRow → Value = λ s. maybe_index s.stack in
-    let moment : SampleRow → Value = λ s. time s.time in
-    let size : SampleRow → Value = λ s. weight t.unit s.weight in
-    let read_size = read_cell (weight_reading (Some t.unit)) in
-    rows_from rows
-    (column_of (read_cell reading.MaybeIndex) true (Some (column stack rows)))
-    (column_of (read_cell reading.Time) false (Some (column moment rows)))
-    (column_of (read_cell (weight_reading (weight_unit (Some (string (weight_type t.unit)))))) false (Some (column size rows)))
-    (column_back (read_cell reading.MaybeIndex) true (map stack rows) (map stack_told rows)
-    (rows_back (read_cell reading.MaybeIndex) stack stack_told rows (λ i s e. maybe_index_back s.stack (small (length t.shared.stacks) (omega arith) s.stack (sample_at i s e).stack))))
-    (column_back (read_cell reading.Time) false (map moment rows) (map time_told rows)
-    (rows_back (read_cell reading.Time) moment time_told rows (λ i s e. time_back s.time (sample_at i s e).time)))
-    (ap (λ (u : Option WeightUnit). column_of (read_cell (weight_reading u)) false (Some (column size rows))) (unit_back t.unit)
-    ∙ column_back read_size false (map size rows) (map weight_told rows)
-    (rows_back read_size size weight_told rows (λ i s e. weight_back t.unit s.weight (sample_at i s e).weight)))
+    rows_from t.samples
+    (column_of (read_cell reading.MaybeIndex) true (Some (column (λ (s : SampleRow). maybe_index s.stack) t.samples)))
+    (column_of (read_cell reading.Time) false (Some (column (λ (s : SampleRow). time s.time) t.samples)))
+    (column_of (read_cell (weight_reading (weight_unit (Some (string (weight_type t.unit)))))) false (Some (column (λ (s : SampleRow). weight t.unit s.weight) t.samples)))
+    (stacks_back t tied own) (moments_back t own) (weights_back t own)
 
 pub unit_of_back : (t : ThreadTables) → unit_of (raw_own (thread_value t)).unit ≡ t.unit
 unfolding raw_own

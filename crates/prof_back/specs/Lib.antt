@@ -1,3 +1,4 @@
+pub mod Equal
 pub mod Gathered
 pub mod Made
 pub mod Texts

@@ -1,11 +1,14 @@
-//! Written profiles are read back. Each law is the contract of a function that does nothing.
+//! Written profiles are read back. Each law is the contract of a function that does nothing else.
 #![tactic(auto)]
+
+mod kept;
 
 ghost use Rattle.std.specs.Prelude.{◌≡◌, ◌≤◌, ◌<◌, ◌^◌, ℕ, ℤ, pos, negsuc, List, length, map, Bool, if◌then◌else◌, Option, None, Some, IfSome};
 ghost use Rattle.std.specs.Option.{option_map, option_map_or};
+ghost use Rattle.prof_back.specs.Equal.{AreEqual, rows_with_texts};
 ghost use Rattle.prof_back.specs.Gathered.{passed, column_with};
 ghost use Rattle.prof_back.specs.Made.{made};
-ghost use Rattle.prof_back.specs.Texts.{IsKept};
+ghost use Rattle.prof_back.specs.Texts.{IsKept, IsThread};
 ghost use Rattle.prof_back.specs.Writable.{IsWritable};
 ghost use Rattle.prof_demo.specs.Generated.{generated};
 ghost use Rattle.prof_grammar.specs.Accepted.{IsAccepted};
@@ -20,12 +23,15 @@ ghost use Rattle.prof_layout.specs.declared.reading.Reading.TheVariants as readi
 ghost use Rattle.prof_raw.specs.declared.limits.TheConstants.{MOST_CATEGORIES, MOST_STRINGS};
 ghost use Rattle.prof_raw.specs.declared.raw.Unit.{Unit as WeightUnit};
 ghost use Rattle.prof_tables.specs.Profiles.{ProfileTables};
-ghost use Rattle.prof_tables.specs.Rows.{frames_of, resources_of, samples_of, stack_frames_of, unit_of};
+ghost use Rattle.prof_tables.specs.Rows.{frames_of, markers_of, resources_of, shared_of, samples_of, stack_frames_of, unit_of};
 ghost use Rattle.prof_tables.specs.Threads.{ThreadTables};
 ghost use Rattle.prof_tables.specs.Ties.{InRange, IsShared, AreTied, AreOwn};
 ghost use Rattle.prof_write.specs.Cells.{column, index, maybe_index, resource_index, time, maybe_time, weight, weight_type};
 ghost use Rattle.prof_write.specs.Compact.{compact, values_of};
 ghost use Rattle.prof_write.specs.Written.{profile_value, thread_value};
+
+pub use kept::is_kept;
+use prof_tables::Profile;
 
 /// The text of a value is accepted as this value, where it is no longer than texts may be.
 pub fn tells_value()
@@ -85,6 +91,41 @@ pub fn reads_frames_back()
         frames_of (raw_tables None (thread_value t)) ≡ t.shared.frames }
     ensures stack_frames { (t : ThreadTables) → IsShared t.shared → stack_frames_of (raw_tables None (thread_value t)) ≡ t.shared.stack_frames }
 {}
+
+/// The tables that threads may share are read back of a thread, where its categories are no more than a text may list.
+pub fn reads_tables_back()
+    ensures { (t : ThreadTables) → IsShared t.shared → t.shared.categories ≤ MOST_CATEGORIES →
+        shared_of t.shared.categories t.shared.default (raw_tables None (thread_value t)) ≡ t.shared }
+{}
+
+/// The markers of a thread are read back, each row with its own texts.
+pub fn reads_markers_back()
+    ensures { (t : ThreadTables) → IsThread t →
+        rows_with_texts (markers_of (raw_own (thread_value t))) ≡ rows_with_texts t.markers }
+{}
+
+/// The value that is written of a profile breaks no rule, where the profile has no more categories than a text may list.
+pub fn breaks_nothing_written()
+    ensures { (p : ProfileTables) → IsKept p → length p.categories ≤ MOST_CATEGORIES →
+        broken (profile_value p) ≡ None }
+{}
+
+/// What is written of a profile stands for an equal profile, where its text is no longer than texts may be, and the profile has no
+/// more categories than a text may list.
+pub fn reads_written_profiles()
+    ensures { (p : ProfileTables) → IsKept p → length p.categories ≤ MOST_CATEGORIES →
+        length (compact (profile_value p)) ≤ LONGEST →
+        (q : ProfileTables) × (Stands (compact (profile_value p)) q × AreEqual q p) }
+{}
+
+/// The same of a profile in memory.
+pub fn reads_profile_back(profile: &Profile)
+    ensures { length profile.now.categories ≤ MOST_CATEGORIES →
+        length (compact (profile_value profile.now)) ≤ LONGEST →
+        (q : ProfileTables) × (Stands (compact (profile_value profile.now)) q × AreEqual q profile.now) }
+{
+    is_kept(profile);
+}
 
 /// The text of the profile that a number makes is that of a value. It is accepted as this value, which breaks no rule, and so it
 /// stands for a profile.

@@ -1,7 +1,6 @@
 -- Cells by their rows.
 use Rattle.std.proofs.Common.{◌≡◌, ◌<◌, ℕ, List, length, get_or, subst, arith}
 use Rattle.std.specs.Prelude.{map}
-use Rattle.std.specs.List.{range_with_len}
 use Rattle.std.proofs.lemmas.List.FromFn.{length-map-range_with_len, get_or-map-range_with_len}
 use Rattle.prof_demo.specs.Generated.{below}
 

@@ -1,6 +1,6 @@
 -- The profile that a number makes: one thread of 60,000 stack rows, each on the one before, and 200,000 samples, one a
 -- microsecond, which go through the rows from the number's on.
-use Rattle.std.specs.Prelude.{ℕ, zero, suc, ◌+◌, ◌-◌, ◌*◌, ◌%◌, ◌==◌, pos, List, ◌++◌, map, codes, if◌then◌else◌}
+use Rattle.std.specs.Prelude.{ℕ, ◌+◌, ◌-◌, ◌*◌, ◌%◌, ◌==◌, pos, List, ◌++◌, map, codes, if◌then◌else◌}
 use Rattle.std.specs.Fmt.{decimal}
 use Rattle.std.specs.List.{join_with_byte, range_with_len}
 use Rattle.prof_time.specs.Spelling.{scaled_text}

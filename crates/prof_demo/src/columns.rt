@@ -1,10 +1,13 @@
 //! The columns of the profile that is made.
-ghost use Rattle.std.specs.Prelude.{◌≡◌};
 ghost use Rattle.prof_demo.specs.Generated.{frames, prefixes, prefix_text, stacks, times};
+ghost use Rattle.prof_io.specs.Outside.{seen};
+ghost use Rattle.prof_page.specs.Gathering.{Gathers};
 
 use arrayvec::ArrayString;
+use itoa::{Buffer, Integer};
 use prof_io::{OutFault, Sink};
-use prof_page::{Column, Line, Page, add_line, number_line, scaled_line};
+use prof_page::{Column, Page, add_text};
+use prof_time::write_scaled;
 
 /// How many stack rows and samples the thread has.
 pub const ROWS: u32 = 60_000;
@@ -16,6 +19,15 @@ const FUNCS: u32 = 8;
 
 /// The nanoseconds between two samples.
 const STEP: u64 = 1_000;
+
+/// Adds a number, with no line between, which would be one copy more.
+fn add_number<S: Sink, I: Integer>(out: &mut S, page: &mut Page, number: I) -> Result<(), OutFault>
+    ensures { Gathers (seen S.Counted out.old) (seen S.Counted out.new) result
+        page.old.bytes (I.text number) page.new.bytes }
+{
+    let mut buffer = Buffer::new();
+    add_text(out, page, buffer.format(number))
+}
 
 /// The frame of each stack row: one function after another, over and over.
 #[derive(Drop)]
@@ -29,7 +41,7 @@ impl Column for Frames {
     }
 
     fn add_cell<S: Sink>(&self, out: &mut S, page: &mut Page, row: u32) -> Result<(), OutFault> {
-        add_line(out, page, &number_line(row % FUNCS))
+        add_number(out, page, row % FUNCS)
     }
 }
 
@@ -45,19 +57,19 @@ impl Column for Prefixes {
     }
 
     fn add_cell<S: Sink>(&self, out: &mut S, page: &mut Page, row: u32) -> Result<(), OutFault> {
-        add_line(out, page, &prefix_line(row))
+        add_prefix(out, page, row)
     }
 }
 
-fn prefix_line(row: u32) -> Line
-    ensures { result.bytes ≡ prefix_text row }
+fn add_prefix<S: Sink>(out: &mut S, page: &mut Page, row: u32) -> Result<(), OutFault>
+    ensures { Gathers (seen S.Counted out.old) (seen S.Counted out.new) result
+        page.old.bytes (prefix_text row) page.new.bytes }
 {
     if row > 0 {
-        return number_line(row - 1);
+        add_number(out, page, row - 1)
+    } else {
+        add_text(out, page, "null")
     }
-    let mut line = ArrayString::new();
-    line.push_str("null");
-    line
 }
 
 /// The stack of each sample: one row after another, from that of the number on, over and over.
@@ -75,7 +87,7 @@ impl Column for SampleStacks {
 
     fn add_cell<S: Sink>(&self, out: &mut S, page: &mut Page, row: u32) -> Result<(), OutFault> {
         let place = (row as u64 + self.number as u64) % ROWS as u64;
-        add_line(out, page, &number_line(place))
+        add_number(out, page, place)
     }
 }
 
@@ -92,6 +104,8 @@ impl Column for Times {
 
     fn add_cell<S: Sink>(&self, out: &mut S, page: &mut Page, row: u32) -> Result<(), OutFault> {
         let time = STEP * row as u64;
-        add_line(out, page, &scaled_line(time as i64, 6))
+        let mut text = ArrayString::new();
+        write_scaled(time as i64, 6, &mut text);
+        add_text(out, page, text.as_str())
     }
 }

@@ -1,9 +1,9 @@
 -- Orders that are carried out step by step.
-use Rattle.std.proofs.Common.{◌≡◌, ◌≢◌, ◌<◌, ℕ, zero, suc, ◌+◌, ◌-◌, ◌≤◌, ◌^◌, min, List, [], ◌∷◌, ◌++◌, length, arith, Ok, Err, None, Some, Result, Option, IfSome, refl, length-append, ap, sym, ◌∙◌, subst, true, false, append_assoc, append-nil, inl, inr, ◌⊎◌}
+use Rattle.std.proofs.Common.{◌≡◌, ◌≢◌, ◌<◌, ℕ, zero, suc, ◌+◌, ◌-◌, ◌≤◌, ◌^◌, min, List, [], ◌∷◌, ◌++◌, length, arith, Ok, Err, None, Some, Result, Option, IfSome, refl, length-append, ap, sym, ◌∙◌, subst, true, false, append_assoc, inl, inr, ◌⊎◌}
 use Rattle.std.specs.Prelude.{⊤}
 use Rattle.std.specs.Io.KnownBytes.{IsAtEnd}
 use Rattle.prof_io.specs.Causes.{Rose}
-use Rattle.prof_io.specs.Shelf.{Place, Served, Shelf}
+use Rattle.prof_io.specs.Shelf.{Place, Shelf}
 use Rattle.prof_io.specs.declared.copying.OutFault.{OutFault}
 use Rattle.prof_desk.specs.declared.breaks.Break.{Break}
 use Rattle.prof_desk.specs.declared.outcome.Outcome.{Outcome}
@@ -12,18 +12,20 @@ use Rattle.prof_desk.specs.declared.outcome.Stop.TheVariants as stop
 use Rattle.prof_desk.specs.declared.status.Status.{Status}
 use Rattle.prof_desk.specs.declared.status.Status.TheVariants as status
 use Rattle.prof_desk.specs.declared.words.Order.{Order}
-use Rattle.prof_desk.specs.declared.words.Order.TheVariants.{Script}
+use Rattle.prof_desk.specs.declared.words.Order.TheVariants.{Script, Serve}
 use Rattle.prof_words.specs.declared.order.WordRefusal.{WordRefusal}
 use Rattle.prof_words.specs.declared.order.WordRefusal.TheVariants as refusal
 use Rattle.prof_script.specs.declared.playing.PlayEnd.{PlayEnd}
 use Rattle.prof_script.specs.declared.playing.PlayEnd.TheVariants as play_end
 use Rattle.prof_desk.specs.Inputs.{Input, IsInput, IsBreak, IsBreakAt, IsThere, AreInputs, AreThere, name_at, text_in}
-use Rattle.prof_desk.specs.Orders.{Kind, can_end, files_of, least_of, needed_of}
+use Rattle.prof_desk.specs.Orders.{Kind, can_end, files_of, has_files, least_of, needed_of}
+use Rattle.prof_serving.specs.Halls.{all_served}
+use Rattle.prof_serving.proofs.Visits.{none_yet}
 use Rattle.prof_desk.specs.Outcomes.{Reads, begun_by, ended_by, stopped_by}
-use Rattle.prof_desk.specs.Output.{AreFates, AreHandled, output_of, readings_of, responses_of}
+use Rattle.prof_desk.specs.Output.{AreFates, AreHandled, output_of, profiles_of, readings_of, unopened_with}
 use Rattle.prof_io.specs.Outside.{Kept, Seen}
 use Rattle.prof_desk.specs.Playing.{Leaves, status_of}
-use Rattle.prof_desk.specs.Ran.{AreAnswered, Did, Does, Keeps, Outside, Ran, Serves, ServesAll, served_by}
+use Rattle.prof_desk.specs.Ran.{Did, Does, Keeps, Outside, Ran, Serves}
 use Rattle.prof_io.specs.Sinks.{Wrote}
 use Rattle.prof_desk.specs.Telling.{refusal_status, told}
 use Rattle.prof_words.specs.Reading.{Reads as ReadsWords}
@@ -35,6 +37,11 @@ abbrev pub file_behind : List (Kind × List ℕ) → ℕ → Option (Kind × Lis
 file_behind [] at = None
 file_behind (file ∷ files) zero = Some file
 file_behind (file ∷ files) (suc at) = file_behind files at
+
+-- where there is a file behind so many, there is one
+has_behind : (files : List (Kind × List ℕ)) (at : ℕ) (file : Kind × List ℕ) → file_behind files at ≡ Some file → has_files files ≡ true
+has_behind [] at file e = absurd (cc)
+has_behind (f ∷ files) at file e = refl
 
 the_file : {a b : Kind × List ℕ} → Some a ≡ Some b → a ≡ b
 the_file h = cc
@@ -129,7 +136,7 @@ stops order old now files inputs text rest k input kind name (stop.Broken b) way
   read = so.read;
   accepted = refl;
   least = omega arith;
-  can = refl;
+  can = has_behind (files_of order) (length inputs) (kind, name) e;
   begins = λ _. omega (arith, r.begins, so.begins);
   break = λ _. break_at old.files.place (files_of order) (length inputs) kind name b e (subst (λ (p : Option Shelf). IsBreak kind (text_in (record (now.files.place) { files = p }) name) b) so.shelf r.refused.0);
   fault = λ f. cc;
@@ -146,7 +153,7 @@ stops order old now files inputs text rest k input kind name stop.FileFault ways
   read = so.read;
   accepted = refl;
   least = omega arith;
-  can = refl;
+  can = has_behind (files_of order) (length inputs) (kind, name) e;
   begins = λ _. omega (arith, r.begins, so.begins);
   break = λ f. cc;
   fault = λ _. (subst (λ n. Rose n files.faults) (sym r.begun_at) r.refused, omega (arith, r.begun_at, so.calm));
@@ -236,6 +243,7 @@ gives_up order old = ends order old old old.out [] [] (output_of order [] no_way
 
 pub no_fates : (order : Order) → AreFates order [] no_ways
 no_fates (Script name script) = tt
+no_fates (Serve port connections sessions profiles) = refl
 no_fates order = tt
 
 -- a keeper that wasn't asked
@@ -246,6 +254,7 @@ keeps_unasked order inputs k end fated not_done no_fault = record {
   later = omega arith;
   began = false;
   all = λ f. absurd (not_done f);
+  begun = λ f. cc;
   failed = λ f. cc;
   kept = λ f. cc;
   left = λ _. refl;
@@ -258,34 +267,24 @@ keeps_unasked order inputs k end fated not_done no_fault = record {
 pub keeps_nothing : (order : Order) (k : Kept) (at : ℕ) → Keeps order [] no_ways k k (ended_by at status.NoMemory)
 keeps_nothing order k at = keeps_unasked order [] k (ended_by at status.NoMemory) (no_fates order) (λ f. cc) (λ f. cc)
 
--- the connections before stay where none is served
-served_none : (coming : Option (List (List ℕ))) (before : Option (List Served)) (responses : List (List ℕ)) → responses ≡ []
-    → IfSome coming (λ come. IfSome before (λ old. IfSome before (λ new. ServesAll responses come old new coming)))
-served_none None before responses e = tt
-served_none (Some come) None responses e = tt
-served_none (Some come) (Some old) responses e = record {
-  before = old;
-  added = [];
-  rest = come;
-  whole = sym (append-nil old);
-  same = refl;
-  came = refl;
-  left_is = refl;
-  answered = subst (AreAnswered []) (sym e) tt;
-}
-
-no_responses : (order : Order) → responses_of order [] no_ways ≡ []
-no_responses order = refl
-
 -- a hall that wasn't opened
-pub serves_nothing : (order : Order) (h : Seen) (at : ℕ) → Serves order [] no_ways h h (ended_by at status.NoMemory)
-serves_nothing order h at = record {
-  fault = λ f. cc;
+pub serves_unasked : (order : Order) (inputs : List Input) (o q h : Seen) (end : Outcome) → end.status ≢ status.Done → end.status ≢ status.HallFault
+    → Serves order inputs no_ways o q h h end
+serves_unasked order inputs o q h end not_done no_fault = record {
+  fault = λ f. absurd (no_fault f);
   later = omega arith;
-  served = served_none h.place.coming (served_by h) (responses_of order [] no_ways) (no_responses order);
-  number = λ f. cc;
-  steady = λ _ f. cc;
+  served = none_yet (profiles_of order inputs) (unopened_with []) (all_served h) h.place.coming;
+  met = tt;
+  settled = tt;
+  number = λ f. absurd (not_done f);
+  most = omega arith;
+  announced = λ f. absurd (no_less f);
+  unasked = λ _ _ _. (refl, refl);
+  steady = λ _. no_fault;
 }
+  where
+    no_less : 0 < 0 → ⊥
+    no_less f = omega (arith, f)
 
 -- a run in which memory ran out before anything was done
 pub ran_out : (order : Order) (old : Outside) (k : Kept) (h e f : Seen) (result : Status) (telling : Result ⊤ OutFault) → result ≡ status.NoMemory
@@ -298,7 +297,7 @@ ran_out order old k h e f result telling is w = record {
     ways = no_ways;
     did = gives_up order old;
     kept = λ _. keeps_nothing order k 0;
-    served = λ _. serves_nothing order h 0;
+    served = λ _. serves_unasked order [] old.out old.out h (ended_by 0 status.NoMemory) (λ f. cc) (λ f. cc);
   };
   telling = telling;
   tells = subst (λ s. Wrote e f telling (told s (name_at (files_of order) 0) [])) (sym is) (subst (λ s. Wrote e f telling (told s [] [])) is w);
@@ -354,21 +353,21 @@ answers_one order old files out rows j input kind name x (Err play_end.NoMemory)
     one_text order old files out rows j input kind name x status.NoMemory e r left few within (omega arith) refl (λ f. cc) (λ f. cc) (λ _. handled)
 
 -- an order that reads no file, and writes one text
-text_alone : (order : Order) (old : Outside) (out : Seen) (end : Status)
-    → Leaves old.out out end (output_of order [] no_ways) → least_of order end ≤ 0 → can_end order end ≡ true → end ≢ status.Broken → end ≢ status.FileFault
-    → AreHandled order [] no_ways → Does order old (record { files = old.files; out = out; reads = old.reads }) (ended_by 0 end)
-text_alone order old out end left least can no_break no_fault handled = (
+text_alone : (order : Order) (old : Outside) (out : Seen) (rows : ℕ) (end : Status)
+    → rows ≤ old.reads + readings_of order [] no_ways → Leaves old.out out end (output_of order [] no_ways) → least_of order end ≤ 0 → can_end order end ≡ true → end ≢ status.Broken → end ≢ status.FileFault
+    → AreHandled order [] no_ways → Does order old (record { files = old.files; out = out; reads = rows }) (ended_by 0 end)
+text_alone order old out rows end few left least can no_break no_fault handled = (
   [],
   no_ways,
-  ends order old old out [] [] (output_of order [] no_ways) 0 0 old.reads no_ways end (starts order old) refl left (omega arith) (omega arith) least can no_break no_fault (λ _. handled),
+  ends order old old out [] [] (output_of order [] no_ways) 0 (readings_of order [] no_ways) rows no_ways end (starts order old) refl left few (omega arith) least can no_break no_fault (λ _. handled),
 )
 
-pub answers_alone : (order : Order) (old : Outside) (out : Seen) (r : Result ⊤ PlayEnd) → length (files_of order) ≡ 0 → needed_of order ≡ 0
+pub answers_alone : (order : Order) (old : Outside) (out : Seen) (rows : ℕ) (r : Result ⊤ PlayEnd) → rows ≤ old.reads + readings_of order [] no_ways → length (files_of order) ≡ 0 → needed_of order ≡ 0
     → Leaves old.out out (status_of r) (output_of order [] no_ways) → AreHandled order [] no_ways
-    → Does order old (record { files = old.files; out = out; reads = old.reads }) (ended_by 0 (status_of r))
-answers_alone order old out (Ok x) none need left handled = text_alone order old out status.Done left (omega (arith, none)) refl (λ f. cc) (λ f. cc) handled
-answers_alone order old out (Err play_end.OutFault) none need left handled = text_alone order old out status.OutFault left (omega (arith, need)) refl (λ f. cc) (λ f. cc) handled
-answers_alone order old out (Err play_end.NoMemory) none need left handled = text_alone order old out status.NoMemory left (omega arith) refl (λ f. cc) (λ f. cc) handled
+    → Does order old (record { files = old.files; out = out; reads = rows }) (ended_by 0 (status_of r))
+answers_alone order old out rows (Ok x) few none need left handled = text_alone order old out rows status.Done few left (omega (arith, none)) refl (λ f. cc) (λ f. cc) handled
+answers_alone order old out rows (Err play_end.OutFault) few none need left handled = text_alone order old out rows status.OutFault few left (omega (arith, need)) refl (λ f. cc) (λ f. cc) handled
+answers_alone order old out rows (Err play_end.NoMemory) few none need left handled = text_alone order old out rows status.NoMemory few left (omega arith) refl (λ f. cc) (λ f. cc) handled
 
 -- and where that isn't accepted
 pub first_stops : {T : Type 0} (order : Order) (old : Outside) (files : Seen) (input : T → Input) (kind : Kind) (name : List ℕ) (s : Stop)

@@ -1,7 +1,7 @@
-pub mod Found
-pub mod Fresh
 pub mod Held
-pub mod Rows
-pub mod OwnTree
 pub mod Carrying
 pub mod Scripts
+pub mod Servings
+pub mod Trials
+pub mod TwoRequests
+pub mod FirstReplies

@@ -1,5 +1,5 @@
 -- Scripts that are read and played.
-use Rattle.std.proofs.Common.{◌≡◌, ◌≢◌, ◌∙◌, ◌<◌, ◌≤◌, ℕ, suc, List, [], ◌∷◌, ◌++◌, map, length, true, false, Option, None, Some, IfSome, Result, Ok, Err, OnOk, refl, sym, ap, subst, arith, append-nil, length-append}
+use Rattle.std.proofs.Common.{◌≡◌, ◌≢◌, ◌∙◌, ◌<◌, ◌≤◌, ℕ, suc, Bool, List, [], ◌∷◌, ◌++◌, map, length, true, false, Option, None, Some, IfSome, Result, Ok, Err, OnOk, refl, sym, ap, subst, arith, append-nil, length-append, unwrap_or}
 use Rattle.std.specs.Prelude.{⊤}
 use Rattle.std.specs.List.{zip}
 use Rattle.std.specs.Io.KnownBytes.{Consumes}
@@ -10,7 +10,7 @@ use Rattle.prof_io.specs.Sinks.{Wrote}
 use Rattle.prof_read.specs.declared.read.Form.{Form}
 use Rattle.prof_tables.specs.Profiles.{ProfileTables}
 use Rattle.prof_machine.specs.Known.{Known}
-use Rattle.prof_machine.specs.Play.{Answered, Starved, Failed, Fate, Held, Line, held_after, held_after_all}
+use Rattle.prof_machine.specs.Play.{Answered, Shown, Starved, Failed, Fate, Held, Line, held_after, held_after_all}
 use Rattle.prof_script.specs.declared.playing.PlayEnd.{PlayEnd}
 use Rattle.prof_script.specs.declared.playing.PlayEnd.TheVariants as play_end
 use Rattle.prof_script.specs.Lines.{lines_of}
@@ -48,7 +48,7 @@ consumes_long (Some x) (Some y) bytes n c long =
 abbrev line_in : Line × Fate → Line
 line_in l = l.0
 
-abbrev fate_in : Line × Fate → Fate
+abbrev pub fate_in : Line × Fate → Fate
 fate_in l = l.1
 
 zip_handled : (hs : List (Line × Fate)) (rest : List Line) → zip (map line_in hs ++ rest) (map fate_in hs) ≡ hs
@@ -67,9 +67,10 @@ zip_next [] (line ∷ []) = refl
 zip_next [] (line ∷ other ∷ rest) = refl
 zip_next (h ∷ hs) rest = ap (λ l. h ∷ l) (zip_next hs rest)
 
-failed_in : (hs : List (Line × Fate)) → failed_count (map fate_in hs) ≡ failed_lines hs
+pub failed_in : (hs : List (Line × Fate)) → failed_count (map fate_in hs) ≡ failed_lines hs
 failed_in [] = refl
 failed_in ((line, Answered) ∷ hs) = failed_in hs
+failed_in ((line, Shown text) ∷ hs) = failed_in hs
 failed_in ((line, Starved) ∷ hs) = failed_in hs
 failed_in ((line, Failed) ∷ hs) = ap (λ n. suc n) (failed_in hs)
 
@@ -94,25 +95,15 @@ module _ (profiles : List (List ℕ × Known)) where
   within_next held laid hs (line ∷ rest) (Err play_end.OutFault) = subst (λ l. lines_readings profiles held laid l ≤ lines_readings profiles held laid (hs ++ next_starved (line ∷ rest))) (sym (append-nil hs)) (more_readings held laid hs (next_starved (line ∷ rest)))
   within_next held laid hs (line ∷ rest) (Ok x) = subst (λ l. lines_readings profiles held laid l ≤ lines_readings profiles held laid (hs ++ next_starved (line ∷ rest))) (sym (append-nil hs)) (more_readings held laid hs (next_starved (line ∷ rest)))
 
-  -- lines that are all answered
-  all_answered : List Line → List Fate
-  all_answered lines = map (λ _. Answered) lines
-
-  fated_answered : (held : Held) (lines : List Line) → AreFated profiles held (zip lines (map (λ _. Answered) lines))
-  fated_answered held [] = tt
-  fated_answered held (line ∷ lines) = (tt, fated_answered (held_after profiles held line Answered) lines)
-
+  -- no line was handled
   fated_none : (held : Held) (lines : List Line) → AreFated profiles held (zip lines [])
   fated_none held [] = tt
   fated_none held (line ∷ lines) = tt
 
-none_failed : (lines : List Line) → failed_count (map (λ _. Answered) lines) ≡ 0
-none_failed [] = refl
-none_failed (line ∷ lines) = none_failed lines
-
-length_answered : (lines : List Line) → length (map (λ (l : Line). Answered) lines) ≡ length lines
-length_answered [] = refl
-length_answered (line ∷ lines) = ap (λ n. suc n) (length_answered lines)
+-- what holds of each value that there may be
+pub if_some : {X : Type 0} {P : X → Type 0} (o : Option X) → ((x : X) → o ≡ Some x → P x) → IfSome o P
+if_some None all = tt
+if_some (Some x) all = all x refl
 
 -- ---- how a play ends
 
@@ -131,7 +122,7 @@ is_whole (Ok x) p d = p
 is_whole (Err play_end.OutFault) p d = absurd (cc)
 is_whole (Err play_end.NoMemory) p d = absurd (cc)
 
-tells_of : (texts : Option Shelf) (held : Shelf) → HasTexts texts held → Tells texts held
+pub tells_of : (texts : Option Shelf) (held : Shelf) → HasTexts texts held → Tells texts held
 tells_of None held h = h
 tells_of (Some shelf) held h = h
 
@@ -150,11 +141,12 @@ module _ (p : ProfileTables) (digest text : List ℕ) (form : Form) (name file :
   abbrev profiles_in : List (List ℕ × Known)
   profiles_in = named_main p digest
 
-  -- a play over a keeper that tells its texts
-  plays_told : (d e : DeskLists) (k m l : Kept) (o q : Seen) (reads rows : ℕ) (r : Result ⊤ PlayEnd) → k.begun [] ≡ Some [] → Begun k m l
-      → Plays profiles_in (unopened_with []) [] (lines_of text) (record { desk = d; keeper = m; out = o; reads = reads }) (record { desk = e; keeper = l; out = q; reads = rows }) r
+  -- a play over a keeper that tells its texts, of which there are none, or that doesn't
+  plays_by : (told : Bool) (d e : DeskLists) (k m l : Kept) (o q : Seen) (reads rows : ℕ) (r : Result ⊤ PlayEnd)
+      → ((texts : Shelf) → k.begun [] ≡ Some texts → (told ≡ true) × (texts ≡ [])) → Begun k m l
+      → Plays profiles_in told (unopened_with []) [] (lines_of text) (record { desk = d; keeper = m; out = o; reads = reads }) (record { desk = e; keeper = l; out = q; reads = rows }) r
       → EndsKeeping (Script name file) inputs o q reads rows k l (status_of r)
-  plays_told d e k m l o q reads rows r told begun plays = record {
+  plays_by told d e k m l o q reads rows r tells begun plays = record {
     ways = ways;
     written = leaves_end o q (script_replies p digest text fates) r (subst (λ ls. Wrote {T = ⊤} {E = ⊤} o q (output_end r) (output profiles_in (unopened_with []) ls)) (sym same) plays.written);
     readings = omega (arith, plays.readings, few);
@@ -164,13 +156,13 @@ module _ (p : ProfileTables) (digest text : List ℕ) (form : Form) (name file :
       later = omega (arith, begun.calm, begun.later);
       began = true;
       all = λ _. refl;
+      begun = λ _. begins (k.begun []) refl;
       failed = λ _. failed;
-      kept = λ _. subst (λ b. IfSome b (λ texts. Tells l.texts (kept_of (Script name file) inputs ways texts))) (sym told)
-          (subst (λ ls. Tells l.texts (held_after_all profiles_in (unopened_with []) ls).kept) (sym same) (tells_of l.texts _ plays.state.kept));
+      kept = λ _. if_some (k.begun []) kept_then;
       left = λ f. cc;
       unasked = λ f. cc;
       fated = subst (λ ls. AreFated profiles_in (unopened_with []) ls) (sym same) plays.fated;
-      told = λ _ _. refl;
+      told = λ texts is. plays.shown (tells texts is).0;
       steady = λ s. (no_keeper_fault r, failed_in plays.handled ∙ (plays.steady (begun.sure s)).0);
     };
   }
@@ -179,7 +171,7 @@ module _ (p : ProfileTables) (digest text : List ℕ) (form : Form) (name file :
       fates = map fate_in plays.handled
 
       ways : Ways
-      ways = record { fates = fates; served = []; untold = None }
+      ways = record { begun = []; fates = fates; served = [] }
 
       same : fated_lines text fates ≡ plays.handled
       same = ap (λ ls. zip ls fates) plays.front ∙ zip_handled plays.handled plays.rest
@@ -194,51 +186,39 @@ module _ (p : ProfileTables) (digest text : List ℕ) (form : Form) (name file :
       failed : RoseBy (failed_count fates) l.returned_at l.faults
       failed = subst (λ n. RoseBy n l.returned_at l.faults) (sym (failed_in plays.handled)) (subst (λ n. RoseBy (failed_lines plays.handled) n l.faults) (sym begun.returned) plays.failed)
 
-  -- a play over one that doesn't
-  plays_untold : (k m l : Kept) (o q : Seen) (reads rows : ℕ) (r : Result ⊤ PlayEnd) (written : List ℕ) → k.begun [] ≡ None → Begun k m l
-      → Wrote {T = ⊤} {E = ⊤} o q (output_end r) written → EndsKeeping (Script name file) inputs o q reads rows k l (status_of r)
-  plays_untold k m l o q reads rows r written untold begun w = record {
-    ways = ways;
-    written = leaves_end o q written r w;
-    readings = omega arith;
-    handled = λ _. length_answered (lines_of text);
-    kept = record {
-      fault = λ f. absurd (no_keeper_fault r f);
-      later = omega (arith, begun.calm, begun.later);
-      began = true;
-      all = λ _. refl;
-      failed = λ _. subst (λ n. RoseBy n l.returned_at l.faults) (sym (none_failed (lines_of text))) (omega (arith, begun.returned, begun.later));
-      kept = λ _. subst (λ b. IfSome b (λ texts. Tells l.texts (kept_of (Script name file) inputs ways texts))) (sym untold) tt;
-      left = λ f. cc;
-      unasked = λ f. cc;
-      fated = fated_answered profiles_in (unopened_with []) (lines_of text);
-      told = λ texts some. cc (untold, some);
-      steady = λ s. (no_keeper_fault r, none_failed (lines_of text));
-    };
-  }
-    where
-      ways : Ways
-      ways = record { fates = map (λ _. Answered) (lines_of text); served = []; untold = Some (record { text = written; rows = rows }) }
+      begins : (b : Option Shelf) → k.begun [] ≡ b → [] ≡ unwrap_or (k.begun []) []
+      begins None is = rw is refl
+      begins (Some texts) is = rw (is, (tells texts is).1) refl
+
+      kept_then : (texts : Shelf) → k.begun [] ≡ Some texts → Tells l.texts (kept_of (Script name file) inputs ways texts)
+      kept_then texts is =
+          let (t, none) = tells texts is in
+          subst (λ b. Tells l.texts (kept_of (Script name file) inputs ways b)) (sym none)
+          (subst (λ ls. Tells l.texts (held_after_all profiles_in (unopened_with []) ls).kept) (sym same) (tells_of l.texts _ (plays.state.kept t)))
 
   -- a play over either
   pub plays_begun : (d e : DeskLists) (k m l : Kept) (o q : Seen) (reads rows : ℕ) (r : Result ⊤ PlayEnd) → d ≡ record { profiles = profiles_in; seats = [] }
       → IfSome (k.begun []) (λ texts. texts ≡ []) → Begun k m l
-      → ((held : Held) (laid : List (List ℕ × Laid)) → IsHeld d.profiles d m.texts held → AreLaid d laid
-      → Plays d.profiles held laid (lines_of text) (record { desk = d; keeper = m; out = o; reads = reads }) (record { desk = e; keeper = l; out = q; reads = rows }) r)
-      → ((written : List ℕ) × Wrote {T = ⊤} {E = ⊤} o q (output_end r) written)
+      → ((told : Bool) (held : Held) (laid : List (List ℕ × Laid)) → IsHeld d.profiles told d m.texts held → AreLaid d laid
+      → Plays d.profiles told held laid (lines_of text) (record { desk = d; keeper = m; out = o; reads = reads }) (record { desk = e; keeper = l; out = q; reads = rows }) r)
       → EndsKeeping (Script name file) inputs o q reads rows k l (status_of r)
-  plays_begun d e k m l o q reads rows r bare nameless begun plays wrote = by_texts (k.begun []) refl
+  plays_begun d e k m l o q reads rows r bare nameless begun plays = by_texts (k.begun []) refl
     where
+      from : (told : Bool) → ((texts : Shelf) → k.begun [] ≡ Some texts → (told ≡ true) × (texts ≡ [])) → (told ≡ true → HasTexts m.texts [])
+          → EndsKeeping (Script name file) inputs o q reads rows k l (status_of r)
+      from told tells has =
+          let held : IsHeld d.profiles told d m.texts (unopened_with []) = record { known = refl; sessions = ap sessions_of bare; kept = has } in
+          let laid : AreLaid d [] = subst (λ x. AreLaid x []) (sym bare) (λ name. refl) in
+          plays_by told d e k m l o q reads rows r tells begun
+          (subst (λ ps. Plays ps told (unopened_with []) [] (lines_of text) (record { desk = d; keeper = m; out = o; reads = reads }) (record { desk = e; keeper = l; out = q; reads = rows }) r)
+          (ap (λ (x : DeskLists). x.profiles) bare) (plays told (unopened_with []) [] held laid))
+
       by_texts : (b : Option Shelf) → k.begun [] ≡ b → EndsKeeping (Script name file) inputs o q reads rows k l (status_of r)
-      by_texts None is = plays_untold k m l o q reads rows r wrote.0 is begun wrote.1
+      by_texts None is = from false (λ texts some. cc (is, some)) (λ f. cc)
       by_texts (Some texts) is =
           let none : texts ≡ [] = subst (λ b. IfSome b (λ texts. texts ≡ [])) is nameless in
-          let told : k.begun [] ≡ Some [] = is ∙ ap (λ l. Some l) none in
-          let held : IsHeld d.profiles d m.texts (unopened_with []) = record { known = refl; sessions = ap sessions_of bare; kept = subst (λ t. HasTexts t []) (sym (begun.texts ∙ told)) (λ name. refl) } in
-          let laid : AreLaid d [] = subst (λ x. AreLaid x []) (sym bare) (λ name. refl) in
-          plays_told d e k m l o q reads rows r told begun
-          (subst (λ ps. Plays ps (unopened_with []) [] (lines_of text) (record { desk = d; keeper = m; out = o; reads = reads }) (record { desk = e; keeper = l; out = q; reads = rows }) r)
-          (ap (λ (x : DeskLists). x.profiles) bare) (plays (unopened_with []) [] held laid))
+          let bare_texts : m.texts ≡ Some [] = begun.texts ∙ is ∙ ap (λ l. Some l) none in
+          from true (λ other some. (refl, cc (is, some, none))) (λ _. subst (λ t. HasTexts t []) (sym bare_texts) (λ name. refl))
 
   -- the keeper wasn't begun, for one reason or the other
   not_begun : (k l : Kept) (o : Seen) (reads : ℕ) (end : Status) → Leaves o o end (script_replies p digest text []) → end ≢ status.Done
@@ -254,6 +234,7 @@ module _ (p : ProfileTables) (digest text : List ℕ) (form : Form) (name file :
       later = later;
       began = false;
       all = λ d. absurd (not_done d);
+      begun = λ f. cc;
       failed = λ f. cc;
       kept = λ f. cc;
       left = λ _. texts;
@@ -276,12 +257,12 @@ module _ (p : ProfileTables) (digest text : List ℕ) (form : Form) (name file :
 
 -- ---- a script that is read and played
 
-not_done : (at : ℕ) (s : Stop) → (stopped_by at s).status ≢ status.Done
+pub not_done : (at : ℕ) (s : Stop) → (stopped_by at s).status ≢ status.Done
 not_done at (stop.Broken b) f = cc
 not_done at stop.FileFault f = cc
 not_done at stop.NoMemory f = cc
 
-no_fault : (at : ℕ) (s : Stop) → (stopped_by at s).status ≢ status.KeeperFault
+pub no_fault : (at : ℕ) (s : Stop) → (stopped_by at s).status ≢ status.KeeperFault
 no_fault at (stop.Broken b) f = cc
 no_fault at stop.FileFault f = cc
 no_fault at stop.NoMemory f = cc

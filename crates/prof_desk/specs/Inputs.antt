@@ -3,16 +3,15 @@ use Rattle.std.specs.Prelude.{◌≡◌, ◌≤◌, ◌<◌, ℕ, length, zero, 
 use Rattle.prof_io.specs.Shelf.{Place, Shelf, content, file_at}
 use Rattle.prof_gather.specs.Feeding.{IsOfText}
 use Rattle.prof_gather.specs.Reading.{EndsBy}
-use Rattle.prof_layout.specs.Profile.{Stands, Breaks}
 use Rattle.prof_read.specs.declared.read.Form.{Form}
-use Rattle.prof_read.specs.declared.read.Form.TheVariants.{Processed}
+use Rattle.prof_read.specs.Texts.{Stands, Breaks, IsOfForm}
 use Rattle.prof_tables.specs.Profiles.{ProfileTables}
 use Rattle.sha2.specs.Sha256.{sha256}
 use Rattle.prof_desk.specs.Orders.{Kind, a_profile, a_script}
 use Rattle.prof_desk.specs.declared.breaks.Break.{Break}
 use Rattle.prof_desk.specs.declared.breaks.Break.TheVariants as break
 
--- what an accepted file is: a profile with its digest and form, or a script's bytes
+-- what an accepted file is: a profile with its digest and the form of its text, or a script's bytes
 pub data Input : Type 0 where
   of_profile : ProfileTables → List ℕ → Form → Input
   of_script : List ℕ → Input
@@ -27,7 +26,7 @@ script_limit = 16777216
 
 -- the bytes are accepted, and are this
 abbrev pub IsInput : Kind → List ℕ → Input → Type 0
-IsInput a_profile bytes (of_profile p digest form) = Stands bytes p × (digest ≡ sha256 bytes) × (form ≡ Processed)
+IsInput a_profile bytes (of_profile p digest form) = Stands bytes p × (digest ≡ sha256 bytes) × IsOfForm bytes form
 IsInput a_script bytes (of_script text) = (text ≡ bytes) × (length bytes ≤ script_limit)
 IsInput kind bytes input = ⊥
 

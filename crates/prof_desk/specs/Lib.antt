@@ -3,10 +3,10 @@ pub mod Inputs
 pub mod Lines
 pub mod Orders
 pub mod Output
+pub mod Opened
 pub mod Outcomes
 pub mod Playing
 pub mod Ran
-pub mod Replies
 pub mod Summary
 pub mod Telling
 pub mod Ways

@@ -1,16 +1,19 @@
 -- How an order is carried out, and how a run ends.
-use Rattle.std.specs.Prelude.{◌≡◌, ◌≢◌, ◌≤◌, ◌<◌, ◌+◌, ◌-◌, ◌^◌, ◌++◌, min, map, ℕ, List, [], ◌∷◌, length, Bool, true, false, Option, Some, None, IfSome, IsSomeAnd, ⊤, Result}
-use Rattle.std.specs.Io.KnownBytes.{IsAtEnd}
+use Rattle.std.specs.Prelude.{◌≡◌, ◌≢◌, ◌≤◌, ◌<◌, ◌+◌, ◌-◌, ◌^◌, ◌++◌, min, unwrap_or, ℕ, List, [], length, Bool, true, false, Option, Some, None, IfSome, IsSomeAnd, ⊤, Result}
+use Rattle.std.specs.Io.KnownBytes.{Appends, IsAtEnd}
 use Rattle.prof_io.specs.Causes.{Rose, RoseBy}
-use Rattle.prof_io.specs.Connections.{served}
-use Rattle.prof_io.specs.Shelf.{Served, Shelf, file_at}
+use Rattle.prof_io.specs.Shelf.{Shelf, file_at}
 use Rattle.prof_io.specs.declared.copying.OutFault.{OutFault}
 use Rattle.prof_io.specs.declared.outside.Counted.{Ghosts}
+use Rattle.prof_machine.specs.Play.{shown_in}
+use Rattle.prof_serve.specs.Answers.{AreMet}
+use Rattle.prof_serve.specs.Readings.{AreSettled}
+use Rattle.prof_serving.specs.Halls.{ServesTold, all_of, all_served}
 use Rattle.prof_desk.specs.Breaks.{break_text}
 use Rattle.prof_desk.specs.Inputs.{Input, AreInputs, AreThere, IsBreakAt, name_at}
 use Rattle.prof_desk.specs.Orders.{asks_hall, asks_keeper, can_end, connections_of, files_of, keeper_name, least_of}
 use Rattle.prof_desk.specs.Outcomes.{begun_by, ended_by}
-use Rattle.prof_desk.specs.Output.{AreFates, AreHandled, kept_of, output_of, readings_of, responses_of}
+use Rattle.prof_desk.specs.Output.{AreFates, AreHandled, announced_by, kept_of, output_of, profiles_of, readings_of, unopened_with}
 use Rattle.prof_io.specs.Outside.{Kept, Seen, seen}
 use Rattle.prof_desk.specs.Playing.{Leaves}
 use Rattle.prof_io.specs.Sinks.{Wrote}
@@ -19,6 +22,7 @@ use Rattle.prof_desk.specs.Ways.{Ways, failed_count}
 use Rattle.prof_desk.specs.declared.outcome.Outcome.{Outcome}
 use Rattle.prof_desk.specs.declared.status.Status.{Status}
 use Rattle.prof_desk.specs.declared.status.Status.TheVariants.{Done, Broken, FileFault, HallFault, NoMemory, KeeperFault}
+use Rattle.prof_desk.specs.declared.status.Status.TheVariants as status
 use Rattle.prof_desk.specs.declared.words.Order.{Order}
 
 -- what each order may move: the files, the output and the count of readings
@@ -62,55 +66,34 @@ pub record Keeps (order : Order) (inputs : List Input) (ways : Ways) (old new : 
   -- where it was begun, and where it wasn't
   pub began : Bool
   pub all : end.status ≡ Done → began ≡ true
+  pub begun : began ≡ true → ways.begun ≡ unwrap_or (old.begun (keeper_name order)) []
   pub failed : began ≡ true → RoseBy (failed_count ways.fates) new.returned_at new.faults
   pub kept : began ≡ true → IfSome (old.begun (keeper_name order)) (λ texts. Tells new.texts (kept_of order inputs ways texts))
   pub left : began ≡ false → new.texts ≡ old.texts
   pub unasked : began ≡ false → ways.fates ≡ []
   pub fated : AreFates order inputs ways
-  -- where it tells its texts, all is told
-  pub told : (texts : Shelf) → old.begun (keeper_name order) ≡ Some texts → ways.untold ≡ None
+  -- where it tells its texts, no text is taken from it in their place
+  pub told : (texts : Shelf) → old.begun (keeper_name order) ≡ Some texts → shown_in ways.fates ≡ []
   -- where it can't fail
   pub steady : old.sure → (end.status ≢ KeeperFault) × (failed_count ways.fates ≡ 0)
 
--- what was written to a connection is its responses, or a front of them where its two counts differ
-pub record IsAnswered (one : Served) (responses : List ℕ) : Type 0 where
-  pub rest : List ℕ
-  pub front : responses ≡ one.answered ++ rest
-  pub whole : one.first ≡ one.second → one.answered ≡ responses
+-- what was written since then begins with this text
+abbrev pub HasWritten : Seen → Seen → List ℕ → Type 0
+HasWritten old new text = (rest : List ℕ) × Appends old.written new.written (text ++ rest)
 
-abbrev pub AreAnswered : List Served → List (List ℕ) → Type 0
-AreAnswered [] [] = ⊤
-AreAnswered [] (text ∷ texts) = ⊥
-AreAnswered (one ∷ more) [] = ⊥
-AreAnswered (one ∷ more) (text ∷ texts) = IsAnswered one text × AreAnswered more texts
-
--- The first of the connections to come were served, in order, behind those before.
-pub record ServesAll (responses : List (List ℕ)) (coming : List (List ℕ)) (old new : List Served) (left : Option (List (List ℕ))) : Type 0 where
-  pub before : List Served
-  pub added : List Served
-  pub rest : List (List ℕ)
-  pub whole : new ≡ before ++ added
-  pub same : length before ≡ length old
-  pub came : coming ≡ map (λ (one : Served). one.came) added ++ rest
-  pub left_is : left ≡ Some rest
-  pub answered : AreAnswered added responses
-
--- the connections that were served, where they are told
-abbrev pub served_by : Seen → Option (List Served)
-served_by hall = told_of hall.place.earlier hall.written
-  where
-    told_of : Option (List Served) → Option (List ℕ) → Option (List Served)
-    told_of None written = None
-    told_of (Some earlier) None = None
-    told_of (Some earlier) (Some answered) = Some (served earlier hall.place.present answered hall.faults)
-
--- What became of the hall.
-pub record Serves (order : Order) (inputs : List Input) (ways : Ways) (old new : Seen) (end : Outcome) : Type 0 where
+-- What became of the hall, and what was written before its first connection was asked for. The first of the connections to come
+-- were served, in order, behind those before, each by what is held behind the messages of those before it.
+pub record Serves (order : Order) (inputs : List Input) (ways : Ways) (out new_out old new : Seen) (end : Outcome) : Type 0 where
   pub fault : end.status ≡ HallFault → Rose new.place.called_at new.place.returned_at × (old.faults ≤ new.place.called_at)
   pub later : old.faults ≤ new.faults
-  pub served : IfSome old.place.coming (λ coming. IfSome (served_by old) (λ before. IfSome (served_by new) (λ after.
-      ServesAll (responses_of order inputs ways) coming before after new.place.coming)))
+  pub served : ServesTold (profiles_of order inputs) (unopened_with ways.begun) (all_served old) old.place.coming (all_served new) new.place.coming ways.served
+  pub met : AreMet (profiles_of order inputs) (unopened_with ways.begun) (all_of ways.served)
+  pub settled : AreSettled (profiles_of order inputs) (unopened_with ways.begun) [] (all_of ways.served)
   pub number : end.status ≡ Done → IfSome old.place.coming (λ coming. length ways.served ≡ min (connections_of order) (length coming))
+  pub most : length ways.served ≤ connections_of order
+  pub announced : 0 < length ways.served → HasWritten out new_out (announced_by order)
+  -- an end that is none of these three comes before the hall is asked
+  pub unasked : end.status ≢ Done → end.status ≢ status.OutFault → end.status ≢ HallFault → (ways.served ≡ []) × (new.place ≡ old.place)
   -- where it can't fail
   pub steady : old.sure → end.status ≢ HallFault
 
@@ -130,13 +113,26 @@ pub record EndsKeeping (order : Order) (inputs : List Input) (out new_out : Seen
   pub handled : end ≡ Done → AreHandled order inputs ways
   pub kept : Keeps order inputs ways k l (ended_by (length inputs) end)
 
+-- How an order that asks keeper and hall was carried out.
+abbrev pub DoesServing : Order → Outside → Outside → Kept → Kept → Seen → Seen → Outcome → Type 0
+DoesServing order old new k l h i end =
+    (inputs : List Input) × (ways : Ways) × Did order inputs ways old new end × Keeps order inputs ways k l end × Serves order inputs ways old.out new.out h i end
+
+-- What is left of such an order once these of its files were accepted.
+pub record EndsServing (order : Order) (inputs : List Input) (out new_out : Seen) (reads new_reads : ℕ) (k l : Kept) (h i : Seen) (end : Status) : Type 0 where
+  pub ways : Ways
+  pub written : Leaves out new_out end (output_of order inputs ways)
+  pub readings : new_reads ≤ reads + readings_of order inputs ways
+  pub kept : Keeps order inputs ways k l (ended_by (length inputs) end)
+  pub served : Serves order inputs ways out new_out h i (ended_by (length inputs) end)
+
 -- How an order was carried out. One choice of its inputs and of what the outside decided serves all of it.
 pub record Carried (order : Order) (old new : Outside) (k l : Kept) (h i : Seen) (end : Outcome) : Type 0 where
   pub inputs : List Input
   pub ways : Ways
   pub did : Did order inputs ways old new end
   pub kept : asks_keeper order ≡ true → Keeps order inputs ways k l end
-  pub served : asks_hall order ≡ true → Serves order inputs ways h i end
+  pub served : asks_hall order ≡ true → Serves order inputs ways old.out new.out h i end
 
 -- How a run for an order ended, and what was told of it: its status, the file behind the accepted ones, and the break.
 pub record Ran (order : Order) (old new : Outside) (k l : Kept) (h i e f : Seen) (result : Status) : Type 0 where

@@ -1,5 +1,5 @@
 // The top call.
-ghost use Rattle.std.specs.Prelude.{◌≡◌, ◌≢◌, ◌∷◌, ◌⊎◌, ℕ, List, None, IfOk, IfSome, false, true, [], Result, ⊤};
+ghost use Rattle.std.specs.Prelude.{◌≡◌, ◌≢◌, ◌∷◌, ◌⊎◌, ℕ, List, None, IfSome, false, map, true, [], Result, ⊤};
 ghost use Rattle.prof_io.specs.declared.copying.OutFault.{OutFault};
 ghost use Rattle.prof_desk.specs.Breaks.{break_text};
 ghost use Rattle.prof_read.specs.declared.read.Form.{Form};
@@ -17,17 +17,18 @@ ghost use Rattle.prof_words.specs.Reading.{texts_of};
 
 use crate::Status;
 use crate::breaks::break_text;
+use crate::opened::{desk_of, write_markers, write_tree};
 use crate::outcome::Outcome;
-use crate::playing::{write_check, write_converted, write_generated, write_markers, write_tree};
+use crate::playing::{write_check, write_converted, write_generated};
 use crate::reading::{read_named, read_script};
+use crate::serving::serve_of;
 use crate::telling::tell;
 use crate::words::{Order, read_words};
-use prof_io::{Files, Hall, KeepRefusal, Keeper, NoMemory, OutFault, Sink, Steps, Text};
-use prof_read::Digest;
+use prof_io::{Files, Hall, KeepRefusal, Keeper, OutFault, Sink, Steps, Text};
 use prof_script::{PlayEnd, play_script};
 use prof_session_desk::Desk;
-use prof_tables::Profile;
-use prof_words::WordRefusal;
+use prof_trial::play_trial;
+use prof_words::{NamedFiles, WordRefusal};
 use std::alloc::Global;
 use std::sync::ledger::Ledger;
 
@@ -53,11 +54,14 @@ fn tree_of<F: Files, S: Sink, L: Ledger>(
     ensures { Does (Order.Tree name.now) (outside F.Counted S.Counted files.old out.old reads.old)
         (outside F.Counted S.Counted files.new out.new reads.new) result }
 {
-    let profile = match read_named(alloc, name, files) {
-        Ok((profile, _, _)) => profile,
+    let (profile, digest, _) = match read_named(alloc, name, files) {
+        Ok(read) => read,
         Err(stop) => return Outcome::stopped(0, stop),
     };
-    Outcome::ended(1, status_of(write_tree(alloc, &profile, out, reads)))
+    let Ok(mut desk) = desk_of(alloc, profile, digest) else {
+        return Outcome::ended(1, Status::NoMemory);
+    };
+    Outcome::ended(1, status_of(write_tree(alloc, &mut desk, out, reads)))
 }
 
 /// Reads the profile of that name, and writes the markers of a thread that a search finds.
@@ -74,23 +78,15 @@ fn markers_of<F: Files, S: Sink, L: Ledger>(
         (outside F.Counted S.Counted files.old out.old reads.old)
         (outside F.Counted S.Counted files.new out.new reads.new) result }
 {
-    let profile = match read_named(alloc, name, files) {
-        Ok((profile, _, _)) => profile,
+    let (profile, digest, _) = match read_named(alloc, name, files) {
+        Ok(read) => read,
         Err(stop) => return Outcome::stopped(0, stop),
     };
-    Outcome::ended(
-        1,
-        status_of(write_markers(alloc, &profile, thread, search, out)),
-    )
-}
-
-/// A desk that has this profile alone, as `main`.
-fn desk_of(alloc: Global, profile: Profile, digest: Digest) -> Result<Desk, NoMemory>
-    ensures { IfOk result (λ desk. desk ≡ record { profiles = named_main profile digest; seats = [] }) }
-{
-    let mut desk = Desk::new(alloc);
-    desk.add_profile(alloc, "main", profile, digest)?;
-    Ok(desk)
+    let Ok(mut desk) = desk_of(alloc, profile, digest) else {
+        return Outcome::ended(1, Status::NoMemory);
+    };
+    let played = write_markers(alloc, &mut desk, thread, search, out, reads);
+    Outcome::ended(1, status_of(played))
 }
 
 /// Begins the keeper without a name, and plays a script on a desk of a profile without sessions.
@@ -195,6 +191,20 @@ fn gen_of<F: Files, S: Sink, L: Ledger>(
     Outcome::ended(0, status_of(write_generated(number, out)))
 }
 
+/// Plays the demo on the profile that the number makes.
+fn demo_of<F: Files, S: Sink, L: Ledger>(
+    alloc: Global,
+    number: u32,
+    files: &mut F,
+    out: &mut S,
+    reads: &mut Steps<L>,
+) -> Outcome
+    ensures { Does (Order.Demo number) (outside F.Counted S.Counted files.old out.old reads.old)
+        (outside F.Counted S.Counted files.new out.new reads.new) result }
+{
+    Outcome::ended(0, status_of(play_trial(alloc, number, out, reads)))
+}
+
 /// Does what an order asks for.
 fn carry_out<F: Files, H: Hall, K: Keeper, S: Sink, L: Ledger>(
     alloc: Global,
@@ -236,9 +246,27 @@ fn carry_out<F: Files, H: Hall, K: Keeper, S: Sink, L: Ledger>(
             out,
             reads,
         ),
+        Order::Serve {
+            port,
+            connections,
+            sessions,
+            profiles,
+        } => serve_of(
+            alloc,
+            *port,
+            *connections,
+            sessions.as_str(),
+            profiles,
+            files,
+            hall,
+            keeper,
+            out,
+            reads,
+        ),
         Order::Check { profile } => check_of(alloc, profile.as_str(), files, out, reads),
         Order::Convert { profile } => convert_of(alloc, profile.as_str(), files, out, reads),
         Order::Gen { number } => gen_of(*number, files, out, reads),
+        Order::Demo { number } => demo_of(alloc, *number, files, out, reads),
     }
 }
 
@@ -260,6 +288,16 @@ fn either<'a>(profile: &'a Text, script: &'a Text, accepted: usize) -> &'a str
     }
 }
 
+/// The name of a profile that is served, where that is the next to be accepted.
+fn served_name(profiles: &NamedFiles, accepted: usize) -> &str
+    ensures { result.now ≡ name_at (map (λ f. (a_profile, f.1)) profiles.now) accepted }
+{
+    match profiles.as_slice().get(accepted) {
+        Some((_, file)) => file.as_str(),
+        None => "",
+    }
+}
+
 /// The name of the file behind so many.
 fn name_behind(order: &Order, accepted: usize) -> &str
     ensures { result.now ≡ name_at (files_of order.now) accepted }
@@ -268,9 +306,10 @@ fn name_behind(order: &Order, accepted: usize) -> &str
         Order::Tree { profile } => only(profile, accepted),
         Order::Markers { profile, .. } => only(profile, accepted),
         Order::Script { profile, script } => either(profile, script, accepted),
+        Order::Serve { profiles, .. } => served_name(profiles, accepted),
         Order::Check { profile } => only(profile, accepted),
         Order::Convert { profile } => only(profile, accepted),
-        Order::Gen { .. } => "",
+        Order::Gen { .. } | Order::Demo { .. } => "",
     }
 }
 

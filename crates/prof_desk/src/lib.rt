@@ -4,11 +4,11 @@
 mod breaks;
 mod desk;
 mod lines;
-mod markers;
+mod opened;
 mod outcome;
-mod own;
 mod playing;
 mod reading;
+mod serving;
 mod status;
 mod summary;
 mod telling;

@@ -3,7 +3,7 @@ ghost use Rattle.prof_desk.specs.Words.{carried_out, order_of};
 ghost use Rattle.prof_words.specs.Reading.{Reads, texts_of};
 
 use prof_io::Text;
-use prof_words::WordRefusal;
+use prof_words::{NamedFiles, WordRefusal};
 use std::alloc::Global;
 
 /// What the words ask for, of what there is.
@@ -24,6 +24,13 @@ pub enum Order {
         profile: Text,
         script: Text,
     },
+    /// The responses to the messages of so many connections, over profiles under names. The keeper is begun under a name.
+    Serve {
+        port: u16,
+        connections: u32,
+        sessions: Text,
+        profiles: NamedFiles,
+    },
     /// What a profile holds, in numbers.
     Check {
         profile: Text,
@@ -34,6 +41,10 @@ pub enum Order {
     },
     /// A profile that is made by a number.
     Gen {
+        number: u32,
+    },
+    /// The first lines of the replies to the demo's lines, on the profile that a number makes.
+    Demo {
         number: u32,
     },
 }
@@ -64,9 +75,21 @@ fn carried_out(order: prof_words::Order) -> Result<Order, WordRefusal>
             search,
         }),
         prof_words::Order::Script { profile, script } => Ok(Order::Script { profile, script }),
+        prof_words::Order::Serve {
+            port,
+            connections,
+            sessions,
+            profiles,
+        } => Ok(Order::Serve {
+            port,
+            connections,
+            sessions,
+            profiles,
+        }),
         prof_words::Order::Check { profile } => Ok(Order::Check { profile }),
         prof_words::Order::Convert { profile } => Ok(Order::Convert { profile }),
         prof_words::Order::Gen { number } => Ok(Order::Gen { number }),
+        prof_words::Order::Demo { number } => Ok(Order::Demo { number }),
         _ => Err(WordRefusal::Usage),
     }
 }

@@ -1,5 +1,5 @@
 -- Requests one after another
-use Rattle.std.specs.Prelude.{ℕ, List, [], ◌∷◌, length, Result, Ok, Err}
+use Rattle.std.specs.Prelude.{ℕ, List, [], ◌∷◌, length, Option, Result, Ok, Err}
 use Rattle.prof_io.specs.Named.{value_at, with_own}
 use Rattle.prof_io.specs.Shelf.{Shelf, file_at}
 use Rattle.prof_request.specs.declared.request.Request.{Request}
@@ -15,16 +15,35 @@ pub record Held : Type 0 where
   pub sessions : List (List ℕ × Session)
   pub kept : Shelf
 
--- how a request fares: it is answered by the machine, it finds no memory, or the keeper fails in it
+-- How a request fares: it is answered by the machine, from the kept text or from the one that the keeper showed; it finds no
+-- memory; or the keeper fails in it.
 pub data Fate : Type 0 where
   Answered : Fate
+  Shown : Option (List ℕ) → Fate
   Starved : Fate
   Failed : Fate
 
+-- the texts that the keeper showed, in order
+abbrev pub shown_in : List Fate → List (Option (List ℕ))
+shown_in [] = []
+shown_in (Answered ∷ fates) = shown_in fates
+shown_in (Shown text ∷ fates) = text ∷ shown_in fates
+shown_in (Starved ∷ fates) = shown_in fates
+shown_in (Failed ∷ fates) = shown_in fates
+
+-- a step of the request's own session, where that is its kept text
+abbrev pub step_from : List (List ℕ × Known) → Held → Request → Option (List ℕ) → After
+step_from profiles held request kept =
+    step profiles (length held.sessions) (value_at held.sessions request.session) kept request.command
+
 -- a step of the request's own session and kept text
 abbrev pub own_step : List (List ℕ × Known) → Held → Request → After
-own_step profiles held request =
-    step profiles (length held.sessions) (value_at held.sessions request.session) (file_at held.kept request.session) request.command
+own_step profiles held request = step_from profiles held request (file_at held.kept request.session)
+
+-- what is held after a step of the request's own session and kept text
+abbrev pub held_by : Held → Request → After → Held
+held_by held request after =
+    record { sessions = with_own request.session after.session held.sessions; kept = with_own request.session after.kept held.kept }
 
 -- a line: a request, or no request from that place on
 abbrev pub Line : Type 0
@@ -33,14 +52,14 @@ Line = Result Request ℕ
 abbrev pub reply_to : List (List ℕ × Known) → Held → Line → Fate → Reply
 reply_to profiles held (Err at) fate = Refused (BadText at)
 reply_to profiles held (Ok request) Answered = (own_step profiles held request).reply
+reply_to profiles held (Ok request) (Shown text) = (step_from profiles held request text).reply
 reply_to profiles held (Ok request) Starved = NoMemory
 reply_to profiles held (Ok request) Failed = Refused KeeperFault
 
 abbrev pub held_after : List (List ℕ × Known) → Held → Line → Fate → Held
 held_after profiles held (Err at) fate = held
-held_after profiles held (Ok request) Answered =
-    let after = own_step profiles held request in
-    record { sessions = with_own request.session after.session held.sessions; kept = with_own request.session after.kept held.kept }
+held_after profiles held (Ok request) Answered = held_by held request (own_step profiles held request)
+held_after profiles held (Ok request) (Shown text) = held_by held request (step_from profiles held request text)
 held_after profiles held (Ok request) Starved = held
 held_after profiles held (Ok request) Failed = held
 

@@ -1,9 +1,7 @@
 pub mod Begun
-pub mod FieldTexts
 pub mod MoreItems
 pub mod OtherNames
 pub mod SampleMembers
 pub mod SharedSlots
-pub mod Slots
 pub mod TableSlots
 pub mod WholeLists

@@ -14,7 +14,7 @@ use Rattle.prof_members.specs.declared.shared.FuncTable.{FuncTable}
 use Rattle.prof_members.specs.declared.shared.FrameTable.{FrameTable}
 use Rattle.prof_members.specs.declared.shared.StackTable.{StackTable}
 use Rattle.prof_members.specs.declared.shared.SharedTables.{SharedTables}
-use Rattle.prof_members.proofs.Slots.{Goes, slot_after}
+use Rattle.prof_schema.proofs.Slots.{Goes, slot_after}
 use Rattle.prof_members.proofs.TableSlots.{HoldsLength}
 
 abbrev pub HoldsCells : ℕ → Reading → Bool → Option Value → Cells → Type 0

@@ -23,7 +23,7 @@ use Rattle.prof_members.specs.declared.shared.SharedMember.TheVariants as shared
 use Rattle.prof_members.specs.declared.threads.ThreadParts.{ThreadParts}
 use Rattle.prof_members.specs.declared.parts.Meta.{Meta}
 use Rattle.prof_members.specs.declared.parts.ProfileParts.{ProfileParts}
-use Rattle.prof_members.proofs.Slots.{Goes, slot_after}
+use Rattle.prof_schema.proofs.Slots.{Goes, slot_after}
 
 abbrev pub HoldsText : Option Value → Option (String Global) → Type 0
 HoldsText o t = option_map string_bytes t ≡ string_of o

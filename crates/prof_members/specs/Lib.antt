@@ -2,6 +2,5 @@ pub mod Ranges
 pub mod Gathered
 pub mod Columns
 pub mod Names
-pub mod Fields
 pub mod SampleNames
 pub mod Named

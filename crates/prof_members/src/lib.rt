@@ -11,6 +11,7 @@ mod samples;
 mod shared;
 mod threads;
 
+pub use categories::category_list;
 pub use lists::{CategoryList, MarkerData, ThreadList};
 pub use markers::MarkerTable;
 pub use parts::{Meta, ProfileParts};

@@ -1,105 +1,25 @@
 //! The table of a thread's markers.
-ghost use Rattle.std.specs.Prelude.{◌≡◌, ◌≤◌, ◌<◌, ◌+◌, ◌^◌, ◌∷◌, ◌++◌, [], List, Some, None, OnOk, IfOk, IfErr, IfSome, IfNone, vec_len, length, false};
-ghost use Rattle.prof_gather.specs.Feeding.{IsWithin, IsBegun, Passes, Finishes, Refuses, in_member};
+ghost use Rattle.std.specs.Prelude.{◌≡◌, ◌∷◌, ◌++◌, [], List, Some, None, OnOk, IfOk, IfErr, IfSome, IfNone, false};
+ghost use Rattle.prof_gather.specs.Feeding.{IsWithin, Passes, Refuses, in_member};
 ghost use Rattle.prof_grammar.specs.Value.{Value, same_text};
 ghost use Rattle.prof_layout.specs.Markers.{data_texts};
 ghost use Rattle.prof_gather.specs.Taking.{Reads};
 ghost use Rattle.prof_members.specs.Gathered.{IsMarkerData};
-ghost use Rattle.prof_members.specs.Ranges.{AreRanges};
 ghost use Rattle.prof_members.specs.Columns.{IsMarkerDataOf};
-ghost use Rattle.prof_members.specs.Fields.{field_texts};
 ghost use Rattle.prof_members.specs.Named.{marker_name};
+ghost use Rattle.prof_schema.specs.Fields.{field_texts};
 
 use crate::lists::MarkerData;
-use indexmap::IndexMap;
-use prof_column::{add_cell, column, empty_column, state_of, table_length, text};
+use prof_column::{add_cell, column, empty_column, state_of, table_length};
 use prof_gather::{
     Feed, FromItems, FromMembers, GatherRefusal, Start, array, members, skip_behind,
 };
-use prof_io::{NoMemory, Source, Text};
+use prof_io::{NoMemory, Source};
 use prof_json::Event;
 use prof_layout::Reading;
 use prof_raw::{MOST_ROWS, RawColumn, State, TableLength};
+use prof_schema::MarkerFields;
 use std::alloc::Global;
-
-/// The members of a marker's data, in the order in which their names come first, each with its last value where that is
-/// a string.
-#[derive(Drop)]
-struct MarkerFields {
-    fields: IndexMap<String, Option<String>>,
-}
-
-impl MarkerFields {
-    ghost use Rattle.prof_grammar.specs.Value.{no_members};
-    ghost use Rattle.prof_members.specs.Fields.{AreFields};
-
-    /// What is gathered of no member.
-    pub fn none(alloc: Global) -> Self
-        ensures { AreFields no_members result }
-    {
-        MarkerFields {
-            fields: IndexMap::new(alloc),
-        }
-    }
-}
-
-impl FromMembers for MarkerFields {
-    ghost use Rattle.prof_members.specs.Fields.{AreFields};
-
-    ghost is = { λ ms f. AreFields ms f };
-
-    fn take_member<R: Source, W: Start>(
-        &mut self,
-        alloc: Global,
-        feed: &mut Feed<R, W>,
-    ) -> Result<(), GatherRefusal> {
-        let name = String::from_str(alloc, feed.name())?;
-        let value = text(alloc, feed)?;
-        let _earlier = self.fields.insert(name, value)?;
-        Ok(())
-    }
-}
-
-/// How many texts there are. A profile's text is too short for more than a u32 counts.
-fn text_count(texts: &[Text]) -> Result<u32, NoMemory>
-    ensures { IfOk result (λ n. n ≡ length texts.now) }
-{
-    if texts.len() > u32::MAX as usize {
-        return Err(NoMemory);
-    }
-    Ok(texts.len() as u32)
-}
-
-/// Adds a text behind the others.
-fn add_text(alloc: Global, texts: &mut Vec<Text>, text: &str) -> Result<(), NoMemory>
-    ensures text { OnOk result (texts.new.items ≡ texts.old.items ++ text.now ∷ []) }
-    ensures grows { vec_len texts.old ≤ vec_len texts.new }
-{
-    let mut copy = Text::new(alloc);
-    copy.push_str(text)?;
-    texts.push(copy)?;
-    Ok(())
-}
-
-/// Adds the values that are strings behind the other texts, and gives their range.
-fn add_texts(
-    alloc: Global,
-    texts: &mut Vec<Text>,
-    fields: &MarkerFields,
-) -> Result<(u32, u32), NoMemory>
-    ensures texts { OnOk result (texts.new.items ≡ texts.old.items ++ field_texts fields.now) }
-    ensures range { IfOk result (λ r. (r.0 ≡ vec_len texts.old) × (r.1 ≡ vec_len texts.new)) }
-    ensures grows { vec_len texts.old ≤ vec_len texts.new }
-{
-    let start = text_count(texts.as_slice())?;
-    for value in fields.fields.values() {
-        if let Some(text) = value {
-            add_text(alloc, texts, text.as_str())?;
-        }
-    }
-    let end = text_count(texts.as_slice())?;
-    Ok((start, end))
-}
 
 impl MarkerData {
     /// The column before its first row.
@@ -116,7 +36,7 @@ impl MarkerData {
     }
 
     /// Adds a row with the texts of these fields, unless there are more than the most rows already.
-    fn add(&mut self, alloc: Global, fields: &MarkerFields) -> Result<(), NoMemory>
+    pub fn add(&mut self, alloc: Global, fields: &MarkerFields) -> Result<(), NoMemory>
         ensures { OnOk result ((v : Value) → data_texts v ≡ field_texts fields.now → (first : MarkerData) (vs : List Value)
             → IsMarkerDataOf first vs self.old → IsMarkerDataOf first (vs ++ v ∷ []) self.new) }
     {
@@ -124,7 +44,7 @@ impl MarkerData {
             return Ok(());
         }
         add_cell(&mut self.column, MOST_ROWS, Ok(None))?;
-        let range = add_texts(alloc, &mut self.texts, fields)?;
+        let range = fields.add_texts(alloc, &mut self.texts)?;
         self.ranges.push(range)?;
         Ok(())
     }

@@ -6,3 +6,6 @@ pub mod Refusing
 pub mod Standing
 pub mod Threading
 pub mod Telling
+pub mod Texts
+pub mod Forming
+pub mod Profiles

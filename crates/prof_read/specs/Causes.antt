@@ -3,7 +3,7 @@ use Rattle.std.specs.Prelude.{◌≡◌, ℕ, List, Option, IfSome, ⊤}
 use Rattle.prof_io.specs.Causes.{Rose}
 use Rattle.prof_gather.specs.Feeding.{IsOfText}
 use Rattle.prof_gather.specs.Reading.{EndsBy}
-use Rattle.prof_layout.specs.Profile.{Breaks}
+use Rattle.prof_read.specs.Texts.{Breaks}
 use Rattle.prof_read.specs.declared.refusal.ReadRefusal.{ReadRefusal}
 use Rattle.prof_read.specs.declared.refusal.ReadRefusal.TheVariants as refusal
 

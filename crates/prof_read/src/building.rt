@@ -44,7 +44,7 @@ fn check(table: Table, column: Column, fault: Option<ListFault>) -> Result<(), B
 }
 
 /// The text is no profile.
-fn unknown_format() -> ReadRefusal
+pub(crate) fn unknown_format() -> ReadRefusal
     ensures { result ≡ ReadRefusal.Broken layout.unknown_format }
 {
     ReadRefusal::Broken(Broken {
@@ -200,7 +200,10 @@ fn threads_of(
 }
 
 /// The names of the categories and the default.
-fn categories_of(alloc: Global, list: CategoryList) -> Result<(Vec<Text>, u32), ReadRefusal>
+pub(crate) fn categories_of(
+    alloc: Global,
+    list: CategoryList,
+) -> Result<(Vec<Text>, u32), ReadRefusal>
     ensures ok { IfOk result (λ r. (r.1 < vec_len r.0) × (vec_len r.0 ≤ 65538)) }
     ensures err { IfErr result IsBuilding }
     ensures categories { (v : Value) → IsCategoryList (layout.categories_member v) list → Reads {Y = List (List ℕ) × ℕ} (λ r. (r.0.items, r.1)) result (layout.categories_broken v) (layout.category_names v, layout.default_category v) }

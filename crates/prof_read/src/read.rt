@@ -1,16 +1,16 @@
 //! A profile out of a source.
 ghost use Rattle.std.specs.Prelude.{◌≡◌, ◌≤◌, ◌≢◌, Ok, Err, IfOk, IfErr, IfSome, OnOk};
 ghost use Rattle.std.specs.Io.KnownBytes.{IsAtEnd};
-ghost use Rattle.prof_layout.specs.Profile.{Stands};
 ghost use Rattle.prof_read.specs.Causes.{IsCaused};
+ghost use Rattle.prof_read.specs.Texts.{Stands, IsOfForm};
 ghost use Rattle.sha2.specs.Sha256.{sha256};
 
 use crate::ReadRefusal;
-use crate::building::profile_of;
+use crate::forms::either_profile;
+use prof_either::EitherParts;
 use prof_gather::read_object;
 pub use prof_io::Digest;
 use prof_io::Source;
-use prof_members::ProfileParts;
 use prof_tables::Profile;
 use std::alloc::Global;
 
@@ -21,7 +21,7 @@ pub enum Form {
     Gecko,
 }
 
-/// Reads the profile of a text of at most 268,435,456 bytes, with the SHA-256 of all its bytes and its form. A fault of
+/// Reads the profile of a text of either form of at most 268,435,456 bytes, with the SHA-256 of all its bytes and its form. A fault of
 /// JSON anywhere in the text goes before every rule.
 pub fn read_profile<S: Source>(
     alloc: Global,
@@ -36,12 +36,12 @@ pub fn read_profile<S: Source>(
     ensures calm { OnOk result (S.faults src.new ≡ S.faults src.old) }
     ensures end { OnOk result (IsAtEnd (S.left src.new)) }
 
-    // Where the source tells its bytes, the profile and the digest are those of its text.
+    // Where the source tells its bytes, the profile, the digest and the form are those of its text.
     ensures stands { IfSome (S.left src.old) (λ text. IfOk result (λ r. Stands text r.0)) }
     ensures digest { IfSome (S.left src.old) (λ text. IfOk result (λ r. r.1 ≡ sha256 text)) }
-    ensures form { IfOk result (λ r. r.2 ≡ Form.Processed) }
+    ensures form { IfSome (S.left src.old) (λ text. IfOk result (λ r. IsOfForm text r.2)) }
 {
-    let (parts, digest) = read_object(alloc, src, ProfileParts::none(alloc))?;
-    let profile = profile_of(alloc, parts)?;
-    Ok((profile, digest, Form::Processed))
+    let (parts, digest) = read_object(alloc, src, EitherParts::none(alloc))?;
+    let (profile, form) = either_profile(alloc, parts)?;
+    Ok((profile, digest, form))
 }

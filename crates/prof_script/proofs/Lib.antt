@@ -1,3 +1,4 @@
 pub mod Layers
+pub mod Unasked
 pub mod Turns
 pub mod Plays

@@ -14,7 +14,7 @@ use Rattle.prof_machine.specs.declared.refusal.Reply.{Reply}
 use Rattle.prof_machine.specs.Known.{Known, thread_of}
 use Rattle.prof_machine.specs.Session.{Session, present}
 use Rattle.prof_machine.specs.Machine.{profile_of}
-use Rattle.prof_machine.specs.Play.{Answered, Starved, Failed, Fate, Held, Line, held_after, held_after_all, reply_to}
+use Rattle.prof_machine.specs.Play.{Answered, Shown, Starved, Failed, Fate, Held, Line, held_after, held_after_all, reply_to, shown_in}
 use Rattle.prof_request.specs.declared.request.Request.{Request}
 use Rattle.prof_request.specs.Requests.{TellsLine}
 use Rattle.prof_request.proofs.OutcomeLemmas.{line_of, tells_line, tells_one_line}
@@ -30,6 +30,9 @@ use Rattle.prof_script.proofs.Turns.{Turn}
 
 abbrev line_in : Line × Fate → Line
 line_in l = l.0
+
+abbrev fate_in : Line × Fate → Fate
+fate_in l = l.1
 
 -- a line that isn't empty
 pub one_line : (line : List ℕ) (b : Bool) → b ≡ false → b ≡ (length line == 0) → some_line line ≡ line ∷ []
@@ -69,15 +72,24 @@ rose_then a b x y z h k = omega (arith, h, k)
 count_append : (xs ys : List (Line × Fate)) → failed_count (xs ++ ys) ≡ failed_count xs + failed_count ys
 count_append [] ys = omega arith
 count_append ((line, Answered) ∷ xs) ys = count_append xs ys
+count_append ((line, Shown text) ∷ xs) ys = count_append xs ys
 count_append ((line, Starved) ∷ xs) ys = count_append xs ys
 count_append ((line, Failed) ∷ xs) ys = let e = count_append xs ys in omega arith
 
-module _ (profiles : List (List ℕ × Known)) where
-  held_append : (held : Held) (xs ys : List (Line × Fate)) → held_after_all profiles held (xs ++ ys) ≡ held_after_all profiles (held_after_all profiles held xs) ys
+-- no text was taken in either part
+none_shown : (xs ys : List (Line × Fate)) → shown_in (map fate_in xs) ≡ [] → shown_in (map fate_in ys) ≡ [] → shown_in (map fate_in (xs ++ ys)) ≡ []
+none_shown [] ys h k = k
+none_shown ((line, Answered) ∷ xs) ys h k = none_shown xs ys h k
+none_shown ((line, Shown text) ∷ xs) ys h k = absurd (cc)
+none_shown ((line, Starved) ∷ xs) ys h k = none_shown xs ys h k
+none_shown ((line, Failed) ∷ xs) ys h k = none_shown xs ys h k
+
+module _ (profiles : List (List ℕ × Known)) (told : Bool) where
+  pub held_append : (held : Held) (xs ys : List (Line × Fate)) → held_after_all profiles held (xs ++ ys) ≡ held_after_all profiles (held_after_all profiles held xs) ys
   held_append held [] ys = refl
   held_append held (x ∷ xs) ys = held_append (held_after profiles held x.0 x.1) xs ys
 
-  output_append : (held : Held) (xs ys : List (Line × Fate)) → output profiles held (xs ++ ys) ≡ output profiles held xs ++ output profiles (held_after_all profiles held xs) ys
+  pub output_append : (held : Held) (xs ys : List (Line × Fate)) → output profiles held (xs ++ ys) ≡ output profiles held xs ++ output profiles (held_after_all profiles held xs) ys
   output_append held [] ys = refl
   output_append held (x ∷ xs) ys =
       let after = held_after profiles held x.0 x.1 in
@@ -95,7 +107,7 @@ module _ (profiles : List (List ℕ × Known)) where
       let after = held_after profiles held x.0 x.1 in
       laid_append after (laid_after profiles held after laid x.0) xs ys
 
-  readings_append : (held : Held) (laid : List (List ℕ × Laid)) (xs ys : List (Line × Fate))
+  pub readings_append : (held : Held) (laid : List (List ℕ × Laid)) (xs ys : List (Line × Fate))
       → lines_readings profiles held laid (xs ++ ys) ≡ lines_readings profiles held laid xs + lines_readings profiles (held_after_all profiles held xs) (laid_after_all profiles held laid xs) ys
   readings_append held laid [] ys = omega arith
   readings_append held laid (x ∷ xs) ys =
@@ -107,7 +119,7 @@ module _ (profiles : List (List ℕ × Known)) where
   -- ---- one line
 
   -- no line was played
-  pub plays_nothing : (held : Held) (laid : List (List ℕ × Laid)) (s : Stage) (x : ⊤) → IsHeld profiles s.desk s.keeper.texts held → AreLaid s.desk laid → Plays profiles held laid [] s s (Ok x)
+  pub plays_nothing : (held : Held) (laid : List (List ℕ × Laid)) (s : Stage) (x : ⊤) → IsHeld profiles told s.desk s.keeper.texts held → AreLaid s.desk laid → Plays profiles told held laid [] s s (Ok x)
   plays_nothing held laid s x is lies = record {
     handled = [];
     rest = [];
@@ -115,6 +127,7 @@ module _ (profiles : List (List ℕ × Known)) where
     whole = refl;
     fated = tt;
     state = is;
+    shown = λ tells. refl;
     written = writes_none s.out;
     failed = omega arith;
     quiet = λ none. refl;
@@ -124,9 +137,9 @@ module _ (profiles : List (List ℕ × Known)) where
   }
 
   -- memory ran out in a line
-  pub plays_starved : (held : Held) (laid : List (List ℕ × Laid)) (line : Line) (d e : DeskLists) (k l : Kept) (o : Seen) (m n : ℕ) → IsHeld profiles e l.texts held → l.faults ≡ k.faults → (k.sure → l.sure)
+  pub plays_starved : (held : Held) (laid : List (List ℕ × Laid)) (line : Line) (d e : DeskLists) (k l : Kept) (o : Seen) (m n : ℕ) → IsHeld profiles told e l.texts held → l.faults ≡ k.faults → (k.sure → l.sure)
       → n ≤ m + line_readings held laid line
-      → Plays profiles held laid (line ∷ []) (record { desk = d; keeper = k; out = o; reads = m }) (record { desk = e; keeper = l; out = o; reads = n }) (Err play_end.NoMemory)
+      → Plays profiles told held laid (line ∷ []) (record { desk = d; keeper = k; out = o; reads = m }) (record { desk = e; keeper = l; out = o; reads = n }) (Err play_end.NoMemory)
   plays_starved held laid line d e k l o m n is calm sure few = record {
     handled = [];
     rest = line ∷ [];
@@ -134,6 +147,7 @@ module _ (profiles : List (List ℕ × Known)) where
     whole = tt;
     fated = tt;
     state = is;
+    shown = λ tells. refl;
     written = writes_none o;
     failed = omega arith;
     quiet = λ none. calm;
@@ -144,9 +158,9 @@ module _ (profiles : List (List ℕ × Known)) where
 
   -- a line was handled, and its reply written
   pub plays_line : (held : Held) (laid : List (List ℕ × Laid)) (line : Line) (reply : Reply) (thread : Option ThreadTables) (d e : DeskLists) (k l : Kept) (o p : Seen) (m n : ℕ) (r : Result ⊤ PlayEnd)
-      → (turn : Turn profiles held laid line reply d e k l m n) → thread ≡ thread_shown profiles (held_after profiles held line turn.fate) line
+      → (turn : Turn profiles told held laid line reply d e k l m n) → thread ≡ thread_shown profiles (held_after profiles held line turn.fate) line
       → r ≢ Err play_end.NoMemory → Wrote o p (output_end r) (reply_bytes thread reply)
-      → Plays profiles held laid (line ∷ []) (record { desk = d; keeper = k; out = o; reads = m }) (record { desk = e; keeper = l; out = p; reads = n }) r
+      → Plays profiles told held laid (line ∷ []) (record { desk = d; keeper = k; out = o; reads = m }) (record { desk = e; keeper = l; out = p; reads = n }) r
   plays_line held laid line reply thread d e k l o p m n r turn shown some w = record {
     handled = (line, turn.fate) ∷ [];
     rest = [];
@@ -154,6 +168,7 @@ module _ (profiles : List (List ℕ × Known)) where
     whole = on_ok r refl;
     fated = (turn.fated, tt);
     state = turn.state;
+    shown = turn.shown;
     written = writes_as (ap (λ t. reply_bytes t reply) shown ∙ ap (reply_bytes (thread_shown profiles (held_after profiles held line turn.fate) line)) turn.same
         ∙ sym (append-nil (reply_bytes (thread_shown profiles (held_after profiles held line turn.fate) line) (reply_to profiles held line turn.fate)))) w;
     failed = turn.failed;
@@ -164,7 +179,7 @@ module _ (profiles : List (List ℕ × Known)) where
   }
 
   -- the thread that the desk shows of a session
-  pub shown_held : (e : DeskLists) (texts : Option Shelf) (after : Held) (request : Request) (name : List ℕ) (thread : Option ThreadTables) → IsHeld profiles e texts after → name ≡ request.session
+  pub shown_held : (e : DeskLists) (texts : Option Shelf) (after : Held) (request : Request) (name : List ℕ) (thread : Option ThreadTables) → IsHeld profiles told e texts after → name ≡ request.session
       → thread ≡ option_map (λ (s : Session). thread_of (profile_of e.profiles s) (present s)) (own_of e name) → thread ≡ thread_shown profiles after (Ok request)
   shown_held e texts after request name thread is same h =
       h ∙ ap (λ p. option_map (λ (s : Session). thread_of (profile_of p s) (present s)) (value_at (sessions_of e) name)) is.known
@@ -182,9 +197,9 @@ module _ (profiles : List (List ℕ × Known)) where
       ∙ ap (λ l. l ++ rest) (sym (map-append line_in hs gs))
 
   -- lines that were played, and then others
-  pub plays_on : (held : Held) (laid : List (List ℕ × Laid)) (xs ys : List Line) (a b c : Stage) (x : ⊤) (r : Result ⊤ PlayEnd) → Plays profiles held laid xs a b (Ok x)
-      → ((mid : Held) (lays : List (List ℕ × Laid)) → IsHeld profiles b.desk b.keeper.texts mid → AreLaid b.desk lays → Plays profiles mid lays ys b c r)
-      → Plays profiles held laid (xs ++ ys) a c r
+  pub plays_on : (held : Held) (laid : List (List ℕ × Laid)) (xs ys : List Line) (a b c : Stage) (x : ⊤) (r : Result ⊤ PlayEnd) → Plays profiles told held laid xs a b (Ok x)
+      → ((mid : Held) (lays : List (List ℕ × Laid)) → IsHeld profiles told b.desk b.keeper.texts mid → AreLaid b.desk lays → Plays profiles told mid lays ys b c r)
+      → Plays profiles told held laid (xs ++ ys) a c r
   plays_on held laid xs ys a b c x r first then =
       let mid = held_after_all profiles held first.handled in
       let lays = laid_after_all profiles held laid first.handled in
@@ -200,7 +215,8 @@ module _ (profiles : List (List ℕ × Known)) where
         front = fronts xs ys first.rest second.rest first.handled second.handled first.front first.whole second.front;
         whole = second.whole;
         fated = fated_append held first.handled second.handled first.fated second.fated;
-        state = subst (λ h. IsHeld profiles c.desk c.keeper.texts h) (sym (held_append held first.handled second.handled)) second.state;
+        state = subst (λ h. IsHeld profiles told c.desk c.keeper.texts h) (sym (held_append held first.handled second.handled)) second.state;
+        shown = λ tells. none_shown first.handled second.handled (first.shown tells) (second.shown tells);
         written = writes_as (sym (output_append held first.handled second.handled)) (writes_then first.written second.written);
         failed = subst (λ n. RoseBy n a.keeper.faults c.keeper.faults) (sym count) (rose_then (failed_count first.handled) (failed_count second.handled) a.keeper.faults b.keeper.faults c.keeper.faults first.failed second.failed);
         quiet = λ none. second.quiet (omega arith) ∙ first.quiet (omega arith);
@@ -227,7 +243,7 @@ module _ (profiles : List (List ℕ × Known)) where
   grown held laid hs (l ∷ rest) ys play_end.NoMemory = omega arith
 
   -- lines of which some weren't played, and others behind them
-  pub plays_cut : (held : Held) (laid : List (List ℕ × Laid)) (xs ys : List Line) (a b : Stage) (e : PlayEnd) → Plays profiles held laid xs a b (Err e) → Plays profiles held laid (xs ++ ys) a b (Err e)
+  pub plays_cut : (held : Held) (laid : List (List ℕ × Laid)) (xs ys : List Line) (a b : Stage) (e : PlayEnd) → Plays profiles told held laid xs a b (Err e) → Plays profiles told held laid (xs ++ ys) a b (Err e)
   plays_cut held laid xs ys a b e first = record {
     handled = first.handled;
     rest = first.rest ++ ys;
@@ -235,6 +251,7 @@ module _ (profiles : List (List ℕ × Known)) where
     whole = tt;
     fated = first.fated;
     state = first.state;
+    shown = first.shown;
     written = first.written;
     failed = first.failed;
     quiet = first.quiet;

@@ -4,4 +4,4 @@
 mod lines;
 mod playing;
 
-pub use playing::{PlayEnd, play_script};
+pub use playing::{PlayEnd, play_request, play_script};

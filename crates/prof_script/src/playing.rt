@@ -1,5 +1,5 @@
 //! The lines of a script, answered one after another.
-ghost use Rattle.std.specs.Prelude.{◌≡◌, ◌≢◌, ◌≤◌, ◌∷◌, [], ℕ, List, Ok, Err, map, option_copied, ⊤};
+ghost use Rattle.std.specs.Prelude.{◌≡◌, ◌≢◌, ◌≤◌, ◌∷◌, [], ℕ, Bool, List, Ok, Err, map, option_copied, ⊤};
 ghost use Rattle.prof_io.specs.Outside.{seen};
 ghost use Rattle.prof_io.specs.Sinks.{Wrote};
 ghost use Rattle.prof_machine.specs.Play.{Held};
@@ -39,8 +39,8 @@ fn put_reply<S: Sink>(thread: Option<&Thread>, reply: &Reply, out: &mut S) -> Re
     }
 }
 
-/// Answers a request, and writes the reply.
-fn play_request<K: Keeper, S: Sink, L: Ledger>(
+/// Answers a request, and writes the reply. Where memory runs out there is none.
+pub fn play_request<K: Keeper, S: Sink, L: Ledger>(
     alloc: Global,
     desk: &mut Desk,
     request: &Request,
@@ -48,10 +48,9 @@ fn play_request<K: Keeper, S: Sink, L: Ledger>(
     out: &mut S,
     reads: &mut Steps<L>,
 ) -> Result<(), PlayEnd>
-    ensures plays { (held : Held) (laid : List (List ℕ × Laid)) → IsHeld desk.old.profiles desk.old (K.texts keeper.old) held → AreLaid desk.old laid →
-        Plays desk.old.profiles held laid (Ok request.now ∷ []) (stage K.Counted K.Keeper.own S.Counted desk.old keeper.old out.old reads.old)
+    ensures plays { (told : Bool) (held : Held) (laid : List (List ℕ × Laid)) → IsHeld desk.old.profiles told desk.old (K.texts keeper.old) held → AreLaid desk.old laid →
+        Plays desk.old.profiles told held laid (Ok request.now ∷ []) (stage K.Counted K.Keeper.own S.Counted desk.old keeper.old out.old reads.old)
         (stage K.Counted K.Keeper.own S.Counted desk.new keeper.new out.new reads.new) result }
-    ensures wrote { (text : List ℕ) × Wrote (seen S.Counted out.old) (seen S.Counted out.new) (output_end result) text }
     ensures profiles { desk.new.profiles ≡ desk.old.profiles }
     ensures called { K.called_at keeper.new ≡ K.called_at keeper.old }
     ensures returned { K.returned_at keeper.new ≡ K.returned_at keeper.old }
@@ -73,10 +72,9 @@ fn play_line<K: Keeper, S: Sink, L: Ledger>(
     out: &mut S,
     reads: &mut Steps<L>,
 ) -> Result<(), PlayEnd>
-    ensures plays { (held : Held) (laid : List (List ℕ × Laid)) → IsHeld desk.old.profiles desk.old (K.texts keeper.old) held → AreLaid desk.old laid →
-        Plays desk.old.profiles held laid (map line_of (some_line line.now)) (stage K.Counted K.Keeper.own S.Counted desk.old keeper.old out.old reads.old)
+    ensures plays { (told : Bool) (held : Held) (laid : List (List ℕ × Laid)) → IsHeld desk.old.profiles told desk.old (K.texts keeper.old) held → AreLaid desk.old laid →
+        Plays desk.old.profiles told held laid (map line_of (some_line line.now)) (stage K.Counted K.Keeper.own S.Counted desk.old keeper.old out.old reads.old)
         (stage K.Counted K.Keeper.own S.Counted desk.new keeper.new out.new reads.new) result }
-    ensures wrote { (text : List ℕ) × Wrote (seen S.Counted out.old) (seen S.Counted out.new) (output_end result) text }
     ensures profiles { desk.new.profiles ≡ desk.old.profiles }
     ensures called { K.called_at keeper.new ≡ K.called_at keeper.old }
     ensures returned { K.returned_at keeper.new ≡ K.returned_at keeper.old }
@@ -105,12 +103,9 @@ pub fn play_script<K: Keeper, S: Sink, L: Ledger>(
     out: &mut S,
     reads: &mut Steps<L>,
 ) -> Result<(), PlayEnd>
-    ensures plays { (held : Held) (laid : List (List ℕ × Laid)) → IsHeld desk.old.profiles desk.old (K.texts keeper.old) held → AreLaid desk.old laid →
-        Plays desk.old.profiles held laid (lines_of script.now) (stage K.Counted K.Keeper.own S.Counted desk.old keeper.old out.old reads.old)
+    ensures plays { (told : Bool) (held : Held) (laid : List (List ℕ × Laid)) → IsHeld desk.old.profiles told desk.old (K.texts keeper.old) held → AreLaid desk.old laid →
+        Plays desk.old.profiles told held laid (lines_of script.now) (stage K.Counted K.Keeper.own S.Counted desk.old keeper.old out.old reads.old)
         (stage K.Counted K.Keeper.own S.Counted desk.new keeper.new out.new reads.new) result }
-
-    // Over a keeper that doesn't tell its texts, too.
-    ensures wrote { (text : List ℕ) × Wrote (seen S.Counted out.old) (seen S.Counted out.new) (output_end result) text }
     ensures profiles { desk.new.profiles ≡ desk.old.profiles }
     ensures called { K.called_at keeper.new ≡ K.called_at keeper.old }
     ensures returned { K.returned_at keeper.new ≡ K.returned_at keeper.old }

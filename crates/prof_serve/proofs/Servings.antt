@@ -1,5 +1,5 @@
 -- The messages of a connection, answered one after another.
-use Rattle.std.proofs.Common.{◌≡◌, ◌≢◌, ◌∙◌, ℕ, ◌+◌, ◌<◌, ◌≤◌, List, [], ◌∷◌, ◌++◌, map, length, Option, Some, None, IfSome, Ok, Err, refl, sym, ap, subst, arith, append-nil, IsTrue, length-append}
+use Rattle.std.proofs.Common.{◌≡◌, ◌≢◌, ◌∙◌, ℕ, ◌+◌, ◌<◌, ◌≤◌, Bool, List, [], ◌∷◌, ◌++◌, map, length, Option, Some, None, IfSome, Ok, Err, refl, sym, ap, subst, arith, append-nil, IsTrue, length-append}
 use Rattle.std.specs.Prelude.{IsFalse}
 use Rattle.std.specs.Io.KnownBytes.{prepend_known}
 use Rattle.std.proofs.lemmas.List.{map-append, length-map}
@@ -10,6 +10,7 @@ use Rattle.prof_io.specs.Sinks.{Wrote}
 use Rattle.prof_machine.specs.Known.{Known}
 use Rattle.prof_machine.specs.Play.{Held, held_after_all}
 use Rattle.prof_script.specs.Playing.{IsHeld, Stage}
+use Rattle.prof_script.specs.Readings.{AreLaid, Laid}
 use Rattle.prof_wire.specs.Messages.{Asked, message, ending, Comes, Finish, after_last, ended, AreMessages}
 use Rattle.prof_wire.specs.Responses.{refusal_bytes}
 use Rattle.prof_wire.specs.Taking.{unused, ComesOut, EndsSo}
@@ -18,9 +19,10 @@ use Rattle.prof_wire.specs.declared.messages.WireEnd.{WireEnd}
 use Rattle.prof_wire.specs.declared.messages.WireEnd.TheVariants.{End, HallFault, Bad, HeadTooLong, BodyTooLong, Coded, Expect}
 use Rattle.prof_serve.specs.declared.serving.ConnEnd.TheVariants.{Ended, Refused, Faulted}
 use Rattle.prof_serve.specs.Answers.{Handled, asked_in, played, responses}
+use Rattle.prof_serve.specs.Readings.{laid_behind_all}
 use Rattle.prof_serve.specs.Serving.{Answers, AreFirst, ComesThen, Handles, IsCut, IsWhole, Serves, closing, end_of}
 use Rattle.prof_serve.proofs.Fronts.{AreGoing, below, going_end, going_first, going_last, going_more, going_one}
-use Rattle.prof_serve.proofs.Handlings.{handles_none, handles_then, responses_append}
+use Rattle.prof_serve.proofs.Handlings.{handles_none, handles_then, handles_with, responses_append}
 use Rattle.prof_serve.proofs.Writings.{Reads, Stopped, Told, stopped_as, told_as, told_none, told_read, told_stop, told_then}
 
 -- these messages came, none of them the last, and the wire stands behind them
@@ -115,11 +117,11 @@ refused_end BodyTooLong some other = refl
 refused_end Coded some other = refl
 refused_end Expect some other = refl
 
-module _ (profiles : List (List ℕ × Known)) (held : Held) where
+module _ (profiles : List (List ℕ × Known)) (told : Bool) (held : Held) (laid : List (List ℕ × Laid)) where
   -- so many messages were answered, none of them the last
   pub record HasServed (a b : Stage) (wire : Waiting) (count : ℕ) : Type 0 where
     pub handled : List Handled
-    pub handles : Handles profiles held handled a b
+    pub handles : Handles profiles told held laid handled a b
     pub count_is : length handled ≡ count
     pub came : CameSo a.out.left count (unused wire b.out.left) handled
     pub written : Told a.out b.out (responses profiles held handled)
@@ -128,10 +130,10 @@ module _ (profiles : List (List ℕ × Known)) (held : Held) where
   came_none None = tt
   came_none (Some bytes) = (bytes, refl, refl, omega arith)
 
-  pub served_none : (s : Stage) (wire : Waiting) → wire.ahead ≡ [] → IsHeld profiles s.desk s.keeper.texts held → HasServed s s wire 0
-  served_none s wire e is = record {
+  pub served_none : (s : Stage) (wire : Waiting) → wire.ahead ≡ [] → IsHeld profiles told s.desk s.keeper.texts held → AreLaid s.desk laid → HasServed s s wire 0
+  served_none s wire e is lies = record {
     handled = [];
-    handles = handles_none profiles held s is;
+    handles = handles_none profiles told held laid s is lies;
     count_is = refl;
     came = subst (λ ahead. CameSo s.out.left 0 (prepend_known ahead s.out.left) []) (sym e) (came_none s.out.left);
     written = told_none s.out;
@@ -141,34 +143,35 @@ module _ (profiles : List (List ℕ × Known)) (held : Held) where
   abbrev pub behind : (a b : Stage) (wire : Waiting) (count : ℕ) → HasServed a b wire count → Held
   behind a b wire count s = held_after_all profiles held (played s.handled)
 
+  -- how the layers stand then
+  abbrev pub lays_behind : (a b : Stage) (wire : Waiting) (count : ℕ) → HasServed a b wire count → List (List ℕ × Laid)
+  lays_behind a b wire count s = laid_behind_all profiles held laid s.handled
+
   texts : (xs : List Handled) (one : Handled) → responses profiles held xs ++ responses profiles (held_after_all profiles held (played xs)) (one ∷ []) ≡ responses profiles held (xs ++ one ∷ [])
   texts xs one = sym (responses_append profiles held xs (one ∷ []))
 
   -- a message more came, and was answered
   pub served_more : {T E : Type 0} (a b c : Stage) (o : Seen) (w v : Waiting) (count : ℕ) (asked : Asked) (x : T) → (s : HasServed a b w count) → Reads b.out o
       → ComesOut count (unused w b.out.left) asked (unused v o.left) → IsFalse asked.last
-      → Answers profiles (behind a b w count s) {T = T} {E = E} asked (record b { out = o }) c (Ok x)
+      → Answers profiles told (behind a b w count s) (lays_behind a b w count s) {T = T} {E = E} asked (record b { out = o }) c (Ok x)
       → HasServed a c v (count + 1)
   served_more {T = T} {E = E} a b c o w v count asked x s reads comes goes (one, is, h, wrote) = record {
     handled = s.handled ++ one ∷ [];
-    handles = handles_then profiles held s.handled (one ∷ []) a (record b { out = o }) c (as_read s) h;
+    handles = handles_then profiles told held laid s.handled (one ∷ []) a (record b { out = o }) c (handles_with profiles told held laid s.handled a b o s.handles) h;
     count_is = one_more s.handled one count s.count_is;
     came = subst (λ l. CameSo a.out.left (count + 1) (unused v l) (s.handled ++ one ∷ [])) (sym wrote.left)
         (came_more a.out.left count (unused v o.left) s.handled one asked is s.count_is goes (came_then a.out.left count (unused w b.out.left) (unused v o.left) s.handled asked s.came comes));
     written = told_as a.out c.out _ _ (texts s.handled one) (told_then a.out o c.out x _ _ (told_read a.out b.out o _ s.written reads) wrote);
   }
-    where
-      as_read : (s : HasServed a b w count) → Handles profiles held s.handled a (record b { out = o })
-      as_read s = record { met = s.handles.met; state = s.handles.state; failed = s.handles.failed; quiet = s.handles.quiet; steady = s.handles.steady }
 
   pub served_last : {T E : Type 0} (a b c : Stage) (o : Seen) (w v : Waiting) (count : ℕ) (asked : Asked) (x : T) → (s : HasServed a b w count) → Reads b.out o
       → ComesOut count (unused w b.out.left) asked (unused v o.left) → IsTrue asked.last
-      → Answers profiles (behind a b w count s) {T = T} {E = E} asked (record b { out = o }) c (Ok x)
-      → Serves profiles held a c Ended
+      → Answers profiles told (behind a b w count s) (lays_behind a b w count s) {T = T} {E = E} asked (record b { out = o }) c (Ok x)
+      → Serves profiles told held laid a c Ended
   served_last {T = T} {E = E} a b c o w v count asked x s reads comes ends (one, is, h, wrote) = (
     s.handled ++ one ∷ [],
-    handles_then profiles held s.handled (one ∷ []) a (record b { out = o }) c
-        (record { met = s.handles.met; state = s.handles.state; failed = s.handles.failed; quiet = s.handles.quiet; steady = s.handles.steady }) h,
+    handles_then profiles told held laid s.handled (one ∷ []) a (record b { out = o }) c
+        (handles_with profiles told held laid s.handled a b o s.handles) h,
     record {
       finish = after_last;
       messages = came_last a.out.left count (unused v o.left) s.handled one asked is s.count_is ends (came_then a.out.left count (unused w b.out.left) (unused v o.left) s.handled asked s.came comes);
@@ -192,12 +195,12 @@ module _ (profiles : List (List ℕ × Known)) (held : Held) where
 
   pub cut_in_answer : {T E : Type 0} (a b c : Stage) (o : Seen) (w v : Waiting) (count : ℕ) (asked : Asked) (e : E) → (s : HasServed a b w count) → Reads b.out o
       → ComesOut count (unused w b.out.left) asked (unused v o.left)
-      → Answers profiles (behind a b w count s) {T = T} {E = E} asked (record b { out = o }) c (Err e)
-      → Serves profiles held a c Faulted
+      → Answers profiles told (behind a b w count s) (lays_behind a b w count s) {T = T} {E = E} asked (record b { out = o }) c (Err e)
+      → Serves profiles told held laid a c Faulted
   cut_in_answer {T = T} {E = E} a b c o w v count asked e s reads comes (one, is, h, wrote) = (
     s.handled ++ one ∷ [],
-    handles_then profiles held s.handled (one ∷ []) a (record b { out = o }) c
-        (record { met = s.handles.met; state = s.handles.state; failed = s.handles.failed; quiet = s.handles.quiet; steady = s.handles.steady }) h,
+    handles_then profiles told held laid s.handled (one ∷ []) a (record b { out = o }) c
+        (handles_with profiles told held laid s.handled a b o s.handles) h,
     cut_of (s.handled ++ one ∷ []) a.out c.out after_last
         (came_one a.out.left count (unused v o.left) s.handled one asked is s.count_is (came_then a.out.left count (unused w b.out.left) (unused v o.left) s.handled asked s.came comes))
         (stopped_as a.out c.out _ _ (texts s.handled one ∙ sym (append-nil (responses profiles held (s.handled ++ one ∷ []))))
@@ -207,10 +210,10 @@ module _ (profiles : List (List ℕ × Known)) (held : Held) where
   -- no message came
   pub served_end : {T E : Type 0} (a b : Stage) (o p : Seen) (w : Waiting) (count : ℕ) (end : WireEnd) (x : T) → HasServed a b w count → Reads b.out o
       → EndsSo count (unused w b.out.left) end → end ≢ HallFault → Wrote {T = T} {E = E} o p (Ok x) (refusal_bytes end)
-      → (handled : List Handled) × Handles profiles held handled a (record b { out = p }) × IsWhole profiles held handled a.out p (end_of (ended end))
+      → (handled : List Handled) × Handles profiles told held laid handled a (record b { out = p }) × IsWhole profiles held handled a.out p (end_of (ended end))
   served_end {T = T} {E = E} a b o p w count end x s reads ends other wrote = (
     s.handled,
-    record { met = s.handles.met; state = s.handles.state; failed = s.handles.failed; quiet = s.handles.quiet; steady = s.handles.steady },
+    handles_with profiles told held laid s.handled a b p s.handles,
     record {
       finish = ended end;
       messages = came_end a.out.left count (unused w b.out.left) s.handled end s.count_is other s.came ends;
@@ -221,20 +224,20 @@ module _ (profiles : List (List ℕ × Known)) (held : Held) where
 
   pub cut_in_refusal : {T E : Type 0} (a b : Stage) (o p : Seen) (w : Waiting) (count : ℕ) (end : WireEnd) (e : E) → HasServed a b w count → Reads b.out o
       → EndsSo count (unused w b.out.left) end → end ≢ HallFault → Wrote {T = T} {E = E} o p (Err e) (refusal_bytes end)
-      → Serves profiles held a (record b { out = p }) Faulted
+      → Serves profiles told held laid a (record b { out = p }) Faulted
   cut_in_refusal {T = T} {E = E} a b o p w count end e s reads ends other wrote = (
     s.handled,
-    record { met = s.handles.met; state = s.handles.state; failed = s.handles.failed; quiet = s.handles.quiet; steady = s.handles.steady },
+    handles_with profiles told held laid s.handled a b p s.handles,
     cut_of s.handled a.out p (ended end) (came_cut a.out.left count (unused w b.out.left) s.handled end s.count_is other s.came ends)
         (told_stop a.out o p e _ _ (told_read a.out b.out o _ s.written reads) wrote),
   )
 
   -- a read failed
   pub cut_in_read : (a b : Stage) (o : Seen) (w : Waiting) (count : ℕ) → HasServed a b w count → o.written ≡ b.out.written → o.place ≡ b.out.place
-      → (b.out.sure → ⊥) → Rose b.out.faults o.faults → Serves profiles held a (record b { out = o }) Faulted
+      → (b.out.sure → ⊥) → Rose b.out.faults o.faults → Serves profiles told held laid a (record b { out = o }) Faulted
   cut_in_read a b o w count s written place unsure rose = (
     s.handled,
-    record { met = s.handles.met; state = s.handles.state; failed = s.handles.failed; quiet = s.handles.quiet; steady = s.handles.steady },
+    handles_with profiles told held laid s.handled a b o s.handles,
     record {
       finish = after_last;
       messages = came_so a.out.left count (unused w b.out.left) s.handled s.came;
@@ -248,7 +251,7 @@ module _ (profiles : List (List ℕ × Known)) (held : Held) where
   )
 
   -- the loop is over
-  pub served_over : (a b : Stage) (w : Waiting) (count : ℕ) → 1000 ≤ count → HasServed a b w count → Serves profiles held a b Ended
+  pub served_over : (a b : Stage) (w : Waiting) (count : ℕ) → 1000 ≤ count → HasServed a b w count → Serves profiles told held laid a b Ended
   served_over a b w count most s = (
     s.handled,
     s.handles,

@@ -4,7 +4,7 @@ use Rattle.prof_tables.specs.Threads.{ThreadTables}
 use Rattle.prof_machine.specs.declared.refusal.Reply.{Reply}
 use Rattle.prof_machine.specs.declared.refusal.Reply.TheVariants.{Done, Closed, NoMemory}
 use Rattle.prof_machine.specs.Known.{Known}
-use Rattle.prof_machine.specs.Play.{Fate, Answered, Starved, Failed, Held, Line, held_after, held_after_all, reply_to}
+use Rattle.prof_machine.specs.Play.{Fate, Starved, Held, Line, held_after, held_after_all, reply_to}
 use Rattle.prof_request.proofs.OutcomeLemmas.{line_of}
 use Rattle.prof_reply.specs.Replies.{reply_bytes}
 use Rattle.prof_script.specs.Playing.{IsFated, thread_shown}
@@ -24,9 +24,9 @@ abbrev pub Tells : Reply → Bool → Type 0
 Tells reply true = ⊤
 Tells reply false = is_change reply ≡ false
 
-abbrev pub told : Reply → Bool → Reply
-told reply true = reply
-told reply false = NoMemory
+abbrev pub reply_told : Reply → Bool → Reply
+reply_told reply true = reply
+reply_told reply false = NoMemory
 
 -- the response that tells a reply
 abbrev pub reply_response : Bool → Option ThreadTables → Reply → List ℕ
@@ -42,21 +42,21 @@ asked_in one = one.0
 -- the lines that messages have the machine play, each with its fate
 abbrev pub played : List Handled → List (Line × Fate)
 played [] = []
-played ((asked, asks line fate said) ∷ more) = (line_of line, fate) ∷ played more
+played ((asked, asks line fate said settled) ∷ more) = (line_of line, fate) ∷ played more
 played ((asked, no_route) ∷ more) = played more
 played ((asked, no_method get) ∷ more) = played more
 
 module _ (profiles : List (List ℕ × Known)) where
   -- the reply to a request's line, where want of memory is one
   abbrev pub reply_of : Held → List ℕ → Fate → Reply
-  reply_of held line Answered = reply_to profiles held (line_of line) Answered
   reply_of held line Starved = NoMemory
-  reply_of held line Failed = reply_to profiles held (line_of line) Failed
+  reply_of held line fate = reply_to profiles held (line_of line) fate
 
   -- the response to a message
   abbrev pub response : Held → Handled → List ℕ
-  response held (asked, asks line fate said) =
-      reply_response asked.last (thread_shown profiles (held_after profiles held (line_of line) fate) (line_of line)) (told (reply_of held line fate) said)
+  response held (asked, asks line fate said settled) =
+      let thread = thread_shown profiles (held_after profiles held (line_of line) fate) (line_of line) in
+      reply_response asked.last thread (reply_told (reply_of held line fate) said)
   response held (asked, no_route) = response_bytes 404 None asked.last (codes "refused NoRoute\n")
   response held (asked, no_method get) = response_bytes 405 (Some get) asked.last (codes "refused NoMethod\n")
 
@@ -69,14 +69,14 @@ module _ (profiles : List (List ℕ × Known)) where
   responses held [] = []
   responses held (one ∷ more) = response held one ++ responses (held_behind held one) more
 
-  -- a request is answered, or memory runs out, or the keeper fails where it is asked
+  -- Memory runs out for a request, or it is answered, from a text that the keeper showed only where it asks for one, or the
+  -- keeper fails where it is asked.
   abbrev pub Fares : Held → List ℕ → Fate → Type 0
-  Fares held line Answered = ⊤
   Fares held line Starved = ⊤
-  Fares held line Failed = IsFated profiles held (line_of line) Failed
+  Fares held line fate = IsFated profiles held (line_of line) fate
 
   abbrev pub IsMet : Held → Errand → Type 0
-  IsMet held (asks line fate said) = Fares held line fate × Tells (reply_of held line fate) said
+  IsMet held (asks line fate said settled) = Fares held line fate × Tells (reply_of held line fate) said
   IsMet held no_route = ⊤
   IsMet held (no_method get) = ⊤
 

@@ -1,4 +1,5 @@
 pub mod Statuses
 pub mod Errands
 pub mod Answers
+pub mod Readings
 pub mod Serving

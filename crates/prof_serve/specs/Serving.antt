@@ -1,18 +1,20 @@
 -- A connection that is served.
-use Rattle.std.specs.Prelude.{◌≡◌, ℕ, ◌+◌, List, [], ◌∷◌, ◌++◌, map, length, IfSome, IsTrue, Result, Ok, Err, ⊤}
+use Rattle.std.specs.Prelude.{◌≡◌, ℕ, ◌+◌, ◌≤◌, Bool, true, List, [], ◌∷◌, ◌++◌, map, length, IfSome, IsTrue, Result, Ok, Err, ⊤}
 use Rattle.prof_io.specs.Bytes.{AppendsPart, FitsRoom}
 use Rattle.prof_io.specs.Causes.{Rose, RoseBy}
 use Rattle.prof_io.specs.Outside.{Seen}
 use Rattle.prof_io.specs.Sinks.{Wrote}
 use Rattle.prof_machine.specs.Known.{Known}
-use Rattle.prof_machine.specs.Play.{Held, held_after_all}
+use Rattle.prof_machine.specs.Play.{Held, held_after_all, shown_in}
 use Rattle.prof_script.specs.Playing.{IsHeld, Stage, failed_count}
+use Rattle.prof_script.specs.Readings.{AreLaid, Laid}
 use Rattle.prof_wire.specs.Messages.{Asked, message, ending, Comes, Finish, after_last, ended, AreMessages}
 use Rattle.prof_wire.specs.Responses.{refusal_bytes}
 use Rattle.prof_wire.specs.declared.messages.WireEnd.TheVariants.{End, HallFault, Bad, HeadTooLong, BodyTooLong, Coded, Expect}
 use Rattle.prof_serve.specs.declared.serving.ConnEnd.{ConnEnd}
 use Rattle.prof_serve.specs.declared.serving.ConnEnd.TheVariants.{Ended, Refused, Faulted}
 use Rattle.prof_serve.specs.Answers.{Handled, asked_in, played, AreMet, responses}
+use Rattle.prof_serve.specs.Readings.{AreSettled, laid_behind_all, messages_readings}
 
 -- these are the first messages of a connection that gave so many before, and these bytes aren't used behind them
 abbrev pub AreFirst : ℕ → List ℕ → List Asked → List ℕ → Type 0
@@ -45,15 +47,6 @@ ComesThen given rest after_last = ⊤
 ComesThen given rest (ended end) = Comes given rest (ending end)
 
 module _ (profiles : List (List ℕ × Known)) (held : Held) where
-  -- Messages were handled one after another: desk and keeper have what is held behind them, and the keeper's count rose for
-  -- each request in which it failed, and for nothing else.
-  pub record Handles (handled : List Handled) (old new : Stage) : Type 0 where
-    pub met : AreMet profiles held handled
-    pub state : IsHeld profiles new.desk new.keeper.texts (held_after_all profiles held (played handled))
-    pub failed : RoseBy (failed_count (played handled)) old.keeper.faults new.keeper.faults
-    pub quiet : failed_count (played handled) ≡ 0 → new.keeper.faults ≡ old.keeper.faults
-    pub steady : old.keeper.sure → (failed_count (played handled) ≡ 0) × new.keeper.sure
-
   -- All messages of the connection were answered, and so was its end.
   pub record IsWhole (handled : List Handled) (old new : Seen) (end : ConnEnd) : Type 0 where
     pub finish : Finish
@@ -77,9 +70,25 @@ module _ (profiles : List (List ℕ × Known)) (held : Held) where
   Ends Refused handled old new = IsWhole handled old new Refused
   Ends Faulted handled old new = IsCut handled old new
 
+module _ (profiles : List (List ℕ × Known)) (told : Bool) (held : Held) (laid : List (List ℕ × Laid)) where
+  -- Messages were handled one after another: the desk has what is held behind them, and so has a keeper that tells its texts.
+  pub record Handles (handled : List Handled) (old new : Stage) : Type 0 where
+    pub met : AreMet profiles held handled
+    pub state : IsHeld profiles told new.desk new.keeper.texts (held_after_all profiles held (played handled))
+    -- where the keeper tells its texts, no text is taken from it in their place
+    pub shown : told ≡ true → shown_in (map (λ l. l.1) (played handled)) ≡ []
+    -- the keeper's count rose for each request in which it failed, and for nothing else
+    pub failed : RoseBy (failed_count (played handled)) old.keeper.faults new.keeper.faults
+    pub quiet : failed_count (played handled) ≡ 0 → new.keeper.faults ≡ old.keeper.faults
+    pub steady : old.keeper.sure → (failed_count (played handled) ≡ 0) × new.keeper.sure
+    -- how the layers stand then, and how many stack rows were read
+    pub settled : AreSettled profiles held laid handled
+    pub lies : AreLaid new.desk (laid_behind_all profiles held laid handled)
+    pub readings : new.reads ≤ old.reads + messages_readings profiles held laid handled
+
   -- A connection was served: the first of its messages were handled, and all of them where the hall didn't fail.
   abbrev pub Serves : Stage → Stage → ConnEnd → Type 0
-  Serves old new end = (handled : List Handled) × Handles handled old new × Ends end handled old.out new.out
+  Serves old new end = (handled : List Handled) × Handles handled old new × Ends profiles held end handled old.out new.out
 
   -- A message was answered.
   abbrev pub Answers : {T E : Type 0} → Asked → Stage → Stage → Result T E → Type 0

@@ -1,9 +1,10 @@
 //! Messages, answered as requests to a desk.
-ghost use Rattle.std.specs.Prelude.{◌≡◌, ◌≤◌, ℕ, List};
+ghost use Rattle.std.specs.Prelude.{◌≡◌, ◌≤◌, ℕ, Bool, List};
 ghost use Rattle.prof_io.specs.Outside.{seen};
 ghost use Rattle.prof_io.specs.Sinks.{Wrote};
 ghost use Rattle.prof_machine.specs.Play.{Held};
 ghost use Rattle.prof_script.specs.Playing.{IsHeld, stage};
+ghost use Rattle.prof_script.specs.Readings.{AreLaid, Laid};
 ghost use Rattle.prof_wire.specs.Lent.{asked_of};
 ghost use Rattle.prof_wire.specs.Messages.{Asked};
 ghost use Rattle.prof_serve.specs.Errands.{AsksLine};
@@ -30,8 +31,11 @@ fn answer_line<H: Hall, K: Keeper, L: Ledger>(
     keeper: &mut K,
     reads: &mut Steps<L>,
 ) -> Result<(), HallFault>
-    ensures answers { (held : Held) → IsHeld desk.old.profiles desk.old (K.texts keeper.old) held → (asked : Asked) → AsksLine asked line.now → asked.last ≡ last →
-        Answers desk.old.profiles held asked (stage K.Counted K.Keeper.own H.Counted desk.old keeper.old hall.old reads.old)
+    ensures answers { (told : Bool) (held : Held) (laid : List (List ℕ × Laid)) →
+        IsHeld desk.old.profiles told desk.old (K.texts keeper.old) held → AreLaid desk.old laid →
+        (asked : Asked) → AsksLine asked line.now → asked.last ≡ last →
+        Answers desk.old.profiles told held laid asked
+        (stage K.Counted K.Keeper.own H.Counted desk.old keeper.old hall.old reads.old)
         (stage K.Counted K.Keeper.own H.Counted desk.new keeper.new hall.new reads.new) result }
     ensures wrote { (text : List ℕ) × Wrote (seen H.Counted hall.old) (seen H.Counted hall.new) result text }
     ensures profiles { desk.new.profiles ≡ desk.old.profiles }
@@ -64,8 +68,10 @@ pub fn answer_message<H: Hall, K: Keeper, L: Ledger>(
     keeper: &mut K,
     reads: &mut Steps<L>,
 ) -> Result<(), HallFault>
-    ensures answers { (held : Held) → IsHeld desk.old.profiles desk.old (K.texts keeper.old) held →
-        Answers desk.old.profiles held (asked_of message.entry) (stage K.Counted K.Keeper.own H.Counted desk.old keeper.old hall.old reads.old)
+    ensures answers { (told : Bool) (held : Held) (laid : List (List ℕ × Laid)) →
+        IsHeld desk.old.profiles told desk.old (K.texts keeper.old) held → AreLaid desk.old laid →
+        Answers desk.old.profiles told held laid (asked_of message.entry)
+        (stage K.Counted K.Keeper.own H.Counted desk.old keeper.old hall.old reads.old)
         (stage K.Counted K.Keeper.own H.Counted desk.new keeper.new hall.new reads.new) result }
     ensures wrote { (text : List ℕ) × Wrote (seen H.Counted hall.old) (seen H.Counted hall.new) result text }
     ensures profiles { desk.new.profiles ≡ desk.old.profiles }

@@ -3,7 +3,7 @@ ghost use Rattle.std.specs.Prelude.{◌++◌, ◌≡◌, Bool, None, codes, deci
 ghost use Rattle.prof_io.specs.Outside.{seen};
 ghost use Rattle.prof_io.specs.Sinks.{Wrote};
 ghost use Rattle.prof_reply.specs.Lines.{line};
-ghost use Rattle.prof_serve.specs.Answers.{Tells, reply_response, told};
+ghost use Rattle.prof_serve.specs.Answers.{Tells, reply_response, reply_told};
 
 use crate::body::Body;
 use crate::statuses::status_of;
@@ -41,7 +41,7 @@ fn put_text<H: Hall>(
     reply: &Reply,
 ) -> Result<(), HallFault>
     ensures { (said : Bool) × Wrote (seen H.Counted hall.old) (seen H.Counted hall.new) result
-        (reply_response last (option_copied thread.entry) (told reply.now said)) }
+        (reply_response last (option_copied thread.entry) (reply_told reply.now said)) }
 {
     let mut body = Body::new(alloc);
     match reply_text(thread, reply, &mut body) {
@@ -73,7 +73,7 @@ pub fn put_reply<H: Hall>(
     reply: &Reply,
 ) -> Result<(), HallFault>
     ensures { (said : Bool) × Tells reply.now said × Wrote (seen H.Counted hall.old) (seen H.Counted hall.new) result
-        (reply_response last (option_copied thread.entry) (told reply.now said)) }
+        (reply_response last (option_copied thread.entry) (reply_told reply.now said)) }
 {
     match reply {
         Reply::Done { version } => {

@@ -1,8 +1,9 @@
 //! A connection served to its end.
-ghost use Rattle.std.specs.Prelude.{◌≡◌, ◌≢◌, ◌≤◌};
+ghost use Rattle.std.specs.Prelude.{◌≡◌, ◌≢◌, ◌≤◌, ℕ, Bool, List};
 ghost use Rattle.prof_io.specs.Causes.{Rose};
 ghost use Rattle.prof_machine.specs.Play.{Held};
 ghost use Rattle.prof_script.specs.Playing.{IsHeld, stage};
+ghost use Rattle.prof_script.specs.Readings.{AreLaid, Laid};
 ghost use Rattle.prof_serve.specs.Serving.{Serves};
 
 use crate::answering::answer_message;
@@ -34,11 +35,10 @@ pub fn serve_connection<H: Hall, K: Keeper, L: Ledger>(
     keeper: &mut K,
     reads: &mut Steps<L>,
 ) -> ConnEnd
-    ensures serves { (held : Held) → IsHeld desk.old.profiles desk.old (K.texts keeper.old) held →
-        Serves desk.old.profiles held (stage K.Counted K.Keeper.own H.Counted desk.old keeper.old hall.old reads.old)
+    ensures serves { (told : Bool) (held : Held) (laid : List (List ℕ × Laid)) →
+        IsHeld desk.old.profiles told desk.old (K.texts keeper.old) held → AreLaid desk.old laid →
+        Serves desk.old.profiles told held laid (stage K.Counted K.Keeper.own H.Counted desk.old keeper.old hall.old reads.old)
         (stage K.Counted K.Keeper.own H.Counted desk.new keeper.new hall.new reads.new) result }
-
-    // Over a keeper that doesn't tell its texts, too.
     ensures place { H.place hall.new ≡ H.place hall.old }
     ensures faulted { result ≡ ConnEnd.Faulted → Rose (H.faults hall.old) (H.faults hall.new) }
     ensures calm { result ≢ ConnEnd.Faulted → H.faults hall.new ≡ H.faults hall.old }

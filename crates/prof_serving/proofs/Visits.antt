@@ -1,5 +1,5 @@
 -- The connections of a hall, one after another.
-use Rattle.std.proofs.Common.{◌≡◌, inl, inr, ℕ, ◌≤◌, List, [], ◌∷◌, ◌++◌, map, take, length, None, Some, IfSome, refl, sym, ap, ◌∙◌, subst, ◌+◌, arith, append_assoc, append-nil, length-append}
+use Rattle.std.proofs.Common.{◌≡◌, inl, inr, ℕ, ◌≤◌, Bool, List, [], ◌∷◌, ◌++◌, map, take, length, None, Some, IfSome, refl, sym, ap, ◌∙◌, subst, ◌+◌, arith, append_assoc, append-nil, length-append}
 use Rattle.std.specs.Option.{option_map, option_and_then}
 use Rattle.std.specs.Io.KnownBytes.{Appends}
 use Rattle.std.specs.declared.option.Option.{Option}
@@ -13,9 +13,11 @@ use Rattle.prof_serve.specs.Answers.{Handled, played, responses}
 use Rattle.prof_serve.specs.Serving.{Ends, Handles, Serves, closing}
 use Rattle.prof_serve.specs.declared.serving.ConnEnd.{ConnEnd}
 use Rattle.prof_serve.specs.declared.serving.ConnEnd.TheVariants.{Ended, Refused, Faulted}
-use Rattle.prof_serve.proofs.Handlings.{held_both, handles_none, handles_then}
+use Rattle.prof_serve.specs.Readings.{laid_behind_all}
+use Rattle.prof_serve.proofs.Handlings.{held_both, handles_none, handles_then, handles_with}
 use Rattle.prof_script.specs.Playing.{IsHeld, Stage}
-use Rattle.prof_serving.specs.Halls.{all_of, all_served, AllServed, IsServed, ServesAll, ServesTold}
+use Rattle.prof_script.specs.Readings.{AreLaid, Laid}
+use Rattle.prof_serving.specs.Halls.{all_of, all_served, AllServed, AreGiven, IsServed, ServesAll, ServesTold}
 
 -- ---- what a `next` does to the connections that are told
 
@@ -77,6 +79,27 @@ came_more (y ∷ ys) x = ap (λ l. y.came ∷ l) (came_more ys x)
 pub all_more : (hs : List (List Handled)) (h : List Handled) → all_of (hs ++ h ∷ []) ≡ all_of hs ++ h
 all_more [] h = append-nil h
 all_more (x ∷ hs) h = ap (λ l. x ++ l) (all_more hs h) ∙ sym (append_assoc x (all_of hs) h)
+
+-- ---- how many were given
+
+pub given_none : (coming : Option (List (List ℕ))) → AreGiven coming coming 0
+given_none None = tt
+given_none (Some coming) = (coming, refl, omega arith)
+
+more_given : (a b : Option (List (List ℕ))) (came : List ℕ) (left : Option (List ℕ)) (rest : List (List ℕ)) (count all : ℕ) → a ≡ Some rest → all ≡ count + length rest
+    → IfSome a (λ coming. (rest : List (List ℕ)) × (coming ≡ came ∷ rest) × (b ≡ Some rest) × (left ≡ Some came))
+    → (rest : List (List ℕ)) × (b ≡ Some rest) × (all ≡ (count + 1) + length rest)
+more_given None b came left rest count all is many h = absurd (cc)
+more_given (Some r) b came left rest count all is many (more, first, then, l) =
+    let same : r ≡ rest = cc in
+    let size : length rest ≡ length (came ∷ more) = ap length (sym same ∙ first) in
+    (more, then, omega (arith, many, size))
+
+pub given_on : (coming : Option (List (List ℕ))) (a b : Place) (left written_old written_new : Option (List ℕ)) (before now count : ℕ) → AreGiven coming a.coming count
+    → GivesNext a b left written_old written_new before now → AreGiven coming b.coming (count + 1)
+given_on None a b left written_old written_new before now count given next = tt
+given_on (Some coming) a b left written_old written_new before now count (rest, is, many) next =
+    more_given a.coming b.coming next.given.0 left rest count (length coming) is many next.given.1
 
 -- ---- one connection
 
@@ -171,36 +194,39 @@ module _ (profiles : List (List ℕ × Known)) where
 
   -- ---- with what the desk and the keeper have
 
-  pub serves_none : (held : Held) (s : Stage) → IsHeld profiles s.desk s.keeper.texts held → ServesAll profiles held s s 0
-  serves_none held s is = ([], refl, handles_none profiles held s is, none_yet held (all_served s.out) s.out.place.coming)
+  module _ (told : Bool) (held : Held) (laid : List (List ℕ × Laid)) where
+    pub serves_none : (s : Stage) → IsHeld profiles told s.desk s.keeper.texts held → AreLaid s.desk laid → ServesAll profiles told held laid s s 0
+    serves_none s is lies = ([], refl, handles_none profiles told held laid s is lies, none_yet held (all_served s.out) s.out.place.coming)
 
-  -- a `next` that gives no connection
-  pub serves_still : (held : Held) (a b : Stage) (n : Seen) (count : ℕ) → ServesAll profiles held a b count → n.place ≡ stayed b.out.place b.out.faults n.faults → n.written ≡ b.out.written
-      → ServesAll profiles held a (record b { out = n }) count
-  serves_still held a b n count (hss, size, h, told) place written =
-      let all : all_served n ≡ all_served b.out =
-      ap (λ (p : Place). option_and_then (λ e. option_map (λ y. served e p.present y n.faults) n.written) p.earlier) place
-      ∙ ap (λ w. option_and_then (λ e. option_map (λ y. served e (closed b.out.faults b.out.place.present) y n.faults) w) b.out.place.earlier) written
-      ∙ same_served b.out.place.earlier b.out.place.present b.out.written b.out.faults n.faults in
-      let coming : n.place.coming ≡ b.out.place.coming = ap (λ (p : Place). p.coming) place in (
-        hss,
-        size,
-        record { met = h.met; state = h.state; failed = h.failed; quiet = h.quiet; steady = h.steady },
-        subst (λ l. ServesTold profiles held (all_served a.out) a.out.place.coming l n.place.coming hss) (sym all)
-            (subst (λ l. ServesTold profiles held (all_served a.out) a.out.place.coming (all_served b.out) l hss) (sym coming) told),
-      )
+    -- a `next` that gives no connection
+    pub serves_still : (a b : Stage) (n : Seen) (count : ℕ) → ServesAll profiles told held laid a b count → n.place ≡ stayed b.out.place b.out.faults n.faults → n.written ≡ b.out.written
+        → ServesAll profiles told held laid a (record b { out = n }) count
+    serves_still a b n count (hss, size, h, so) place written =
+        let all : all_served n ≡ all_served b.out =
+        ap (λ (p : Place). option_and_then (λ e. option_map (λ y. served e p.present y n.faults) n.written) p.earlier) place
+        ∙ ap (λ w. option_and_then (λ e. option_map (λ y. served e (closed b.out.faults b.out.place.present) y n.faults) w) b.out.place.earlier) written
+        ∙ same_served b.out.place.earlier b.out.place.present b.out.written b.out.faults n.faults in
+        let coming : n.place.coming ≡ b.out.place.coming = ap (λ (p : Place). p.coming) place in (
+          hss,
+          size,
+          handles_with profiles told held laid (all_of hss) a b n h,
+          subst (λ l. ServesTold profiles held (all_served a.out) a.out.place.coming l n.place.coming hss) (sym all)
+              (subst (λ l. ServesTold profiles held (all_served a.out) a.out.place.coming (all_served b.out) l hss) (sym coming) so),
+        )
 
-  -- a connection was given, and served
-  pub serves_on : (held : Held) (a b c : Stage) (n : Seen) (count : ℕ) (end : ConnEnd) → ServesAll profiles held a b count
-      → GivesNext b.out.place n.place n.left b.out.written n.written b.out.faults n.faults
-      → ((mid : Held) → IsHeld profiles b.desk b.keeper.texts mid → Serves profiles mid (record b { out = n }) c end) → c.out.place ≡ n.place
-      → ServesAll profiles held a c (count + 1)
-  serves_on held a b c n count end (hss, size, h, told) gives serves place =
-      let mid = held_after_all profiles held (played (all_of hss)) in
-      let (handled, then, ends) = serves mid h.state in
-      let before : Handles profiles held (all_of hss) a (record b { out = n }) = record { met = h.met; state = h.state; failed = h.failed; quiet = h.quiet; steady = h.steady } in (
-        hss ++ handled ∷ [],
-        omega (arith, size, length-append hss (handled ∷ [])),
-        subst (λ l. Handles profiles held l a c) (sym (all_more hss handled)) (handles_then profiles held (all_of hss) handled a (record b { out = n }) c before then),
-        goes_on held (all_served a.out) a.out.place.coming b.out n c.out hss end handled told gives ends place,
-      )
+    -- a connection was given, and served
+    pub serves_on : (a b c : Stage) (n : Seen) (count : ℕ) (end : ConnEnd) → ServesAll profiles told held laid a b count
+        → GivesNext b.out.place n.place n.left b.out.written n.written b.out.faults n.faults
+        → ((mid : Held) (lays : List (List ℕ × Laid)) → IsHeld profiles told b.desk b.keeper.texts mid → AreLaid b.desk lays → Serves profiles told mid lays (record b { out = n }) c end)
+        → c.out.place ≡ n.place
+        → ServesAll profiles told held laid a c (count + 1)
+    serves_on a b c n count end (hss, size, h, so) gives serves place =
+        let mid = held_after_all profiles held (played (all_of hss)) in
+        let lays = laid_behind_all profiles held laid (all_of hss) in
+        let (handled, then, ends) = serves mid lays h.state h.lies in (
+          hss ++ handled ∷ [],
+          omega (arith, size, length-append hss (handled ∷ [])),
+          subst (λ l. Handles profiles told held laid l a c) (sym (all_more hss handled))
+              (handles_then profiles told held laid (all_of hss) handled a (record b { out = n }) c (handles_with profiles told held laid (all_of hss) a b n h) then),
+          goes_on held (all_served a.out) a.out.place.coming b.out n c.out hss end handled so gives ends place,
+        )

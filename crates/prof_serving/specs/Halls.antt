@@ -1,5 +1,5 @@
 -- The connections of a hall, served one after another by the same desk.
-use Rattle.std.specs.Prelude.{◌≡◌, ◌⊎◌, ℕ, ◌≤◌, List, [], ◌∷◌, ◌++◌, length, map, take, Some, None, ⊤}
+use Rattle.std.specs.Prelude.{◌≡◌, ◌⊎◌, ◌+◌, ℕ, ◌≤◌, Bool, List, [], ◌∷◌, ◌++◌, length, map, take, Some, None, ⊤}
 use Rattle.std.specs.Option.{option_map, option_and_then}
 use Rattle.std.specs.declared.option.Option.{Option}
 use Rattle.prof_io.specs.Causes.{Rose}
@@ -9,6 +9,7 @@ use Rattle.prof_io.specs.Shelf.{Served}
 use Rattle.prof_machine.specs.Known.{Known}
 use Rattle.prof_machine.specs.Play.{Held, held_after_all}
 use Rattle.prof_script.specs.Playing.{Stage}
+use Rattle.prof_script.specs.Readings.{Laid}
 use Rattle.prof_wire.specs.Messages.{Finish, AreMessages}
 use Rattle.prof_serve.specs.Answers.{Handled, asked_in, played, responses}
 use Rattle.prof_serve.specs.Serving.{AreFirst, ComesThen, Handles, closing}
@@ -16,6 +17,11 @@ use Rattle.prof_serve.specs.Serving.{AreFirst, ComesThen, Handles, closing}
 -- all connections that were served, the present one with them, where they are told
 abbrev pub all_served : Seen → Option (List Served)
 all_served s = option_and_then (λ earlier. option_map (λ answered. served earlier s.place.present answered s.faults) s.written) s.place.earlier
+
+-- so many of the connections to come were given, where they are told
+abbrev pub AreGiven : Option (List (List ℕ)) → Option (List (List ℕ)) → ℕ → Type 0
+AreGiven None now count = ⊤
+AreGiven (Some coming) now count = (rest : List (List ℕ)) × (now ≡ Some rest) × (length coming ≡ count + length rest)
 
 -- the messages of all connections
 abbrev pub all_of : List (List Handled) → List Handled
@@ -62,9 +68,9 @@ module _ (profiles : List (List ℕ × Known)) where
   ServesTold held (Some old) None now left handled = ⊤
   ServesTold held (Some old) (Some coming) now left handled = Serves held old coming now left handled
 
-  -- So many connections were served, each with the messages that were handled on it; desk and keeper have what is held behind
-  -- all of them.
-  abbrev pub ServesAll : Held → Stage → Stage → ℕ → Type 0
-  ServesAll held old new count =
-      (handled : List (List Handled)) × (length handled ≡ count) × Handles profiles held (all_of handled) old new
+  -- So many connections were served, each with the messages that were handled on it; the desk has what is held behind all
+  -- of them, and so has a keeper that tells its texts.
+  abbrev pub ServesAll : Bool → Held → List (List ℕ × Laid) → Stage → Stage → ℕ → Type 0
+  ServesAll told held laid old new count =
+      (handled : List (List Handled)) × (length handled ≡ count) × Handles profiles told held laid (all_of handled) old new
       × ServesTold held (all_served old.out) old.out.place.coming (all_served new.out) new.out.place.coming handled

@@ -5,7 +5,7 @@ ghost use Rattle.prof_tree.specs.Growing.{node_from, IsTable, Adds, IsGrown, Are
 ghost use Rattle.prof_tree.specs.Nodes.{Weighed, nodes_of, at_roots};
 
 use crate::branch::Branch;
-use crate::listing::{children_of, listed, ranked};
+use crate::listing::{children_of, listed};
 use crate::node::Node;
 use prof_io::NoMemory;
 use std::alloc::{AllocError, Global};
@@ -47,8 +47,7 @@ pub fn finish(alloc: Global, rows: &[Branch], default: u32) -> Result<Vec<Node>,
     if rows.len() > u32::MAX as usize {
         return Err(NoMemory);
     }
-    let ranks = ranked(alloc, rows)?;
-    let children = children_of(alloc, rows, &ranks)?;
+    let children = children_of(alloc, rows)?;
     let order = listed(alloc, rows, &children)?;
     Ok(nodes_at(alloc, rows, &order, default)?)
 }

@@ -13,12 +13,12 @@ use Rattle.prof_token.specs.declared.fault.JsonFault.{JsonFault}
 use Rattle.prof_token.specs.declared.fault.JsonFault.TheVariants.{NotJson, TooDeep, TooLong, ReadFault, NoMemory}
 use Rattle.prof_gather.specs.Feeding.{IsOfText}
 use Rattle.prof_gather.specs.Reading.{EndsBy, IsEnding}
-use Rattle.prof_layout.specs.Profile.{Stands, Breaks}
-use Rattle.prof_layout.proofs.Texts.{not_both, same_profile}
 use Rattle.prof_raw.specs.declared.rule.Broken.{Broken}
 use Rattle.prof_read.specs.Causes.{IsCaused}
+use Rattle.prof_read.specs.Texts.{Stands, Breaks}
 use Rattle.prof_read.specs.declared.refusal.ReadRefusal.{ReadRefusal}
 use Rattle.prof_read.specs.declared.refusal.ReadRefusal.TheVariants as refusal
+use Rattle.prof_read.proofs.Texts.{not_both, same_profile}
 use Rattle.prof_tables.specs.Profiles.{ProfileTables}
 
 ends_finished : (text : List ℕ) (v : Value) → IsAccepted text v → (reading LONGEST 0 start text).ending ≡ finished

@@ -1,5 +1,5 @@
 -- Lines that are answered one after another.
-use Rattle.std.proofs.Common.{◌≡◌, ◌∙◌, ℕ, zero, suc, ◌+◌, ◌≤◌, List, [], ◌∷◌, ◌++◌, map, length, drop, Some, Result, Ok, Err, OnOk, refl, sym, ap, subst, arith, append_assoc}
+use Rattle.std.proofs.Common.{◌≡◌, ◌∙◌, ℕ, zero, suc, ◌+◌, ◌≤◌, List, [], ◌∷◌, ◌++◌, map, length, drop, true, Some, Result, Ok, Err, OnOk, refl, sym, ap, subst, arith, append_assoc}
 use Rattle.std.specs.Prelude.{⊤, slice_get}
 use Rattle.prof_io.specs.Outside.{Seen}
 use Rattle.prof_machine.specs.Known.{Known}
@@ -85,7 +85,7 @@ module _ (profiles : List (List ℕ × Known)) where
       omega (arith, rest)
 
   -- no line was answered yet
-  pub firsts_none : (held : Held) (laid : List (List ℕ × Laid)) (s : Stage) → IsHeld profiles s.desk s.keeper.texts held → AreLaid s.desk laid → PlaysFirsts profiles held laid [] s s (Ok tt)
+  pub firsts_none : (held : Held) (laid : List (List ℕ × Laid)) (s : Stage) → IsHeld profiles true s.desk s.keeper.texts held → AreLaid s.desk laid → PlaysFirsts profiles held laid [] s s (Ok tt)
   firsts_none held laid s is lies = record {
     put = writes_none s.out;
     read_rows = omega arith;
@@ -106,16 +106,16 @@ module _ (profiles : List (List ℕ × Known)) where
 
   -- lines were answered, and others after them
   pub firsts_then : (held : Held) (laid : List (List ℕ × Laid)) (ls others : List Line) (old mid new : Stage) (r : Result ⊤ PlayEnd) → PlaysFirsts profiles held laid ls old mid (Ok tt)
-      → ((now : Held) (lays : List (List ℕ × Laid)) → IsHeld profiles mid.desk mid.keeper.texts now → AreLaid mid.desk lays → PlaysFirsts profiles now lays others mid new r)
+      → ((now : Held) (lays : List (List ℕ × Laid)) → IsHeld profiles true mid.desk mid.keeper.texts now → AreLaid mid.desk lays → PlaysFirsts profiles now lays others mid new r)
       → PlaysFirsts profiles held laid (ls ++ others) old new r
   firsts_then held laid ls others old mid new r so plays = by_state so.state
     where
       State : Type 0
-      State = OnOk r ((now : Held) × (lays : List (List ℕ × Laid)) × IsHeld profiles new.desk new.keeper.texts now × AreLaid new.desk lays
+      State = OnOk r ((now : Held) × (lays : List (List ℕ × Laid)) × IsHeld profiles true new.desk new.keeper.texts now × AreLaid new.desk lays
           × ((more : List Line) → first_lines profiles held ((ls ++ others) ++ more) ≡ first_lines profiles held (ls ++ others) ++ first_lines profiles now more)
           × ((more : List Line) → readings profiles held laid ((ls ++ others) ++ more) ≡ readings profiles held laid (ls ++ others) + readings profiles now lays more))
 
-      by_state : OnOk {T = ⊤} {E = PlayEnd} (Ok tt) ((now : Held) × (lays : List (List ℕ × Laid)) × IsHeld profiles mid.desk mid.keeper.texts now × AreLaid mid.desk lays
+      by_state : OnOk {T = ⊤} {E = PlayEnd} (Ok tt) ((now : Held) × (lays : List (List ℕ × Laid)) × IsHeld profiles true mid.desk mid.keeper.texts now × AreLaid mid.desk lays
           × ((more : List Line) → first_lines profiles held (ls ++ more) ≡ first_lines profiles held ls ++ first_lines profiles now more)
           × ((more : List Line) → readings profiles held laid (ls ++ more) ≡ readings profiles held laid ls + readings profiles now lays more))
           → PlaysFirsts profiles held laid (ls ++ others) old new r

@@ -1,5 +1,5 @@
 -- The demo: its lines, and the first lines of the replies to them.
-use Rattle.std.specs.Prelude.{◌≡◌, ℕ, ◌+◌, ◌≤◌, List, [], ◌∷◌, ◌++◌, map, codes, Result, Ok, Err, OnOk, ⊤}
+use Rattle.std.specs.Prelude.{◌≡◌, ℕ, ◌+◌, ◌≤◌, List, [], ◌∷◌, ◌++◌, map, codes, Result, Ok, Err, OnOk, true, ⊤}
 use Rattle.prof_io.specs.Outside.{Seen}
 use Rattle.prof_io.specs.Sinks.{Wrote}
 use Rattle.prof_back.specs.Made.{made}
@@ -67,6 +67,6 @@ Puts old new (Err play_end.NoMemory) text = (front : List ℕ) × (rest : List �
 pub record PlaysFirsts (profiles : List (List ℕ × Known)) (held : Held) (laid : List (List ℕ × Laid)) (lines : List Line) (old new : Stage) (result : Result ⊤ PlayEnd) : Type 0 where
   pub put : Puts old.out new.out result (first_lines profiles held lines)
   pub read_rows : new.reads ≤ old.reads + readings profiles held laid lines
-  pub state : OnOk result ((now : Held) × (lays : List (List ℕ × Laid)) × IsHeld profiles new.desk new.keeper.texts now × AreLaid new.desk lays
+  pub state : OnOk result ((now : Held) × (lays : List (List ℕ × Laid)) × IsHeld profiles true new.desk new.keeper.texts now × AreLaid new.desk lays
       × ((others : List Line) → first_lines profiles held (lines ++ others) ≡ first_lines profiles held lines ++ first_lines profiles now others)
       × ((others : List Line) → readings profiles held laid (lines ++ others) ≡ readings profiles held laid lines + readings profiles now lays others))

@@ -1,5 +1,5 @@
 //! The demo's lines, answered on a desk.
-ghost use Rattle.std.specs.Prelude.{◌≡◌, ◌<◌, ◌∷◌, [], ℕ, List, Some, slice_get};
+ghost use Rattle.std.specs.Prelude.{◌≡◌, ◌<◌, ◌∷◌, [], ℕ, List, Some, slice_get, true};
 ghost use Rattle.prof_io.specs.Outside.{seen};
 ghost use Rattle.prof_machine.specs.Known.{Known};
 ghost use Rattle.prof_machine.specs.Play.{Held, Line};
@@ -41,7 +41,7 @@ fn play_first<K: Keeper, S: Sink, L: Ledger>(
     reads: &mut Steps<L>,
 ) -> Result<(), PlayEnd>
     ensures plays { (held : Held) (laid : List (List ℕ × Laid)) (l : Line) → K.sure keeper.old → lines_of line.now ≡ l ∷ [] →
-        IsHeld desk.old.profiles desk.old (K.texts keeper.old) held → AreLaid desk.old laid →
+        IsHeld desk.old.profiles true desk.old (K.texts keeper.old) held → AreLaid desk.old laid →
         PlaysFirsts desk.old.profiles held laid (l ∷ [])
         (stage K.Counted K.Keeper.own S.Counted desk.old keeper.old out.old reads.old)
         (stage K.Counted K.Keeper.own S.Counted desk.new keeper.new out.new reads.new) result }
@@ -68,7 +68,7 @@ pub(crate) fn play_lines<K: Keeper, S: Sink, L: Ledger>(
     reads: &mut Steps<L>,
 ) -> Result<(), PlayEnd>
     ensures { (held : Held) (laid : List (List ℕ × Laid)) → K.sure keeper.old →
-        IsHeld desk.old.profiles desk.old (K.texts keeper.old) held → AreLaid desk.old laid →
+        IsHeld desk.old.profiles true desk.old (K.texts keeper.old) held → AreLaid desk.old laid →
         PlaysFirsts desk.old.profiles held laid asked
         (stage K.Counted K.Keeper.own S.Counted desk.old keeper.old out.old reads.old)
         (stage K.Counted K.Keeper.own S.Counted desk.new keeper.new out.new reads.new) result }

@@ -17,7 +17,7 @@ File = List ℕ × List ℕ
 abbrev pub goes_by : List ℕ → File → Bool
 goes_by name f = bytes_eq f.0 name
 
-bytes_eq-sym : (a b : List ℕ) → bytes_eq a b ≡ bytes_eq b a
+pub bytes_eq-sym : (a b : List ℕ) → bytes_eq a b ≡ bytes_eq b a
 bytes_eq-sym a b = same_from_decides (bytes_eq a b) (bytes_eq b a) (bytes_eq-Decides a b) (Decides-like (bytes_eq b a) sym sym (bytes_eq-Decides b a))
 
 -- a name comes twice

@@ -1,8 +1,8 @@
 //! Files with the names that they go by.
-ghost use Rattle.std.specs.Prelude.{◌≡◌, [], ◌∷◌, ◌++◌, OnOk, OnErr, option_map};
+ghost use Rattle.std.specs.Prelude.{◌≡◌, [], ◌∷◌, ◌++◌, OnOk, OnErr, false, option_map, true};
 ghost use Rattle.std.specs.List.{list_all, list_any};
 ghost use Rattle.std.specs.Str.{bytes_eq};
-ghost use Rattle.prof_words.specs.Files.{files_of, is_name, is_name_byte, named_file};
+ghost use Rattle.prof_words.specs.Files.{files_of, is_name, is_name_byte, named_file, names_differ};
 ghost use Rattle.prof_words.specs.Reading.{Reads, texts};
 
 use crate::order::WordRefusal;
@@ -13,18 +13,21 @@ use std::marker::Model;
 /// How many bytes a name has at most.
 const NAME_LIMIT: usize = 64;
 
-/// Files, each with the name that it goes by.
+/// Files, each with the name that it goes by. No name comes twice.
 #[derive(Drop)]
 pub struct NamedFiles {
     files: Vec<(Text, Text)>,
 }
 
 impl Model for NamedFiles {
-    ghost use Rattle.std.specs.Prelude.{ℕ, List};
+    ghost use Rattle.std.specs.Prelude.{◌≡◌, ℕ, List, true};
+    ghost use Rattle.prof_words.specs.Files.{names_differ};
 
     ghost Value = { List (List ℕ × List ℕ) };
 
     ghost view = { λ f. f.files.items };
+
+    ghost invariant = { λ f. names_differ f.files.items ≡ true };
 }
 
 impl NamedFiles {
@@ -37,7 +40,9 @@ impl NamedFiles {
         }
     }
 
+    /// Adds a file by a name that none has.
     pub fn push(&mut self, alloc: Global, name: &str, file: &str) -> Result<(), NoMemory>
+        requires { list_any (λ f. bytes_eq f.0 name.now) self.old ≡ false }
         ensures ok { OnOk result (self.new ≡ self.old ++ (name.now, file.now) ∷ []) }
         ensures err { OnErr result (self.new ≡ self.old) }
     {
@@ -46,6 +51,13 @@ impl NamedFiles {
         entry.1.push_str(file)?;
         self.files.push(entry)?;
         Ok(())
+    }
+
+    /// What each of these keeps: no name comes twice. The call does nothing.
+    pub fn keeps(&self)
+        ensures { names_differ self.now ≡ true }
+    {
+        let _ = &self.files;
     }
 
     pub fn as_slice(&self) -> &[(Text, Text)]

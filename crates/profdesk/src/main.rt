@@ -5,16 +5,14 @@ ghost use Rattle.std.specs.Prelude.{◌≡◌, ◌<◌};
 
 use prof_desk::{Status, WordRefusal, refuse, run};
 use prof_io::Steps;
-use prof_memory::{SteadyHall, SteadyKeeper};
+use prof_listener::OsHall;
+use prof_sql_keeper::SqlKeeper;
 use prof_system::{OsFiles, OsSink};
 use std::env;
 use std::io::ErrorKind;
 use std::marker::Brand;
 use std::process::ExitCode;
 use std::sync::ledger::{Blank, Ledger};
-
-/// How many bytes a read of a connection gives at most.
-const PIECE: usize = 65536;
 
 /// The words of the command line after the program's name. Words that aren't all text fit no command.
 fn words_of(rt: &HostRuntime) -> Result<Vec<String>, WordRefusal> {
@@ -28,8 +26,7 @@ fn words_of(rt: &HostRuntime) -> Result<Vec<String>, WordRefusal> {
     }
 }
 
-/// Runs the desk over the system's files and streams, with a counter of readings of its own. No command that there is
-/// asks for a hall, and none for texts that are kept past its run, so the hall and the keeper stand empty in memory.
+/// Runs the desk over the system's files, streams and sockets and a database of texts, with a counter of readings of its own.
 fn run_counted<L: Ledger>(rt: &HostRuntime, words: &[String], blank: Blank) -> Status
     requires name { blank.name ≡ L.name }
     requires parts { blank.parts ≡ L.parts }
@@ -37,10 +34,13 @@ fn run_counted<L: Ledger>(rt: &HostRuntime, words: &[String], blank: Blank) -> S
 {
     let alloc = rt.alloc();
     let mut files = OsFiles::new(rt);
-    let mut hall = SteadyHall::new(Vec::new(alloc), PIECE);
-    let mut keeper = SteadyKeeper::new(alloc);
+    let mut hall = OsHall::new(rt);
     let mut out = OsSink::new(rt.stdout());
     let mut err = OsSink::new(rt.stderr());
+    let Ok(runtime) = rt.clone() else {
+        return refuse(&mut err, WordRefusal::NoMemory);
+    };
+    let mut keeper = SqlKeeper::new(runtime);
     let mut reads: Steps<L> = Steps::new(blank);
     run(
         alloc,

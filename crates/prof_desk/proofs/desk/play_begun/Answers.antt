@@ -16,7 +16,7 @@ returns-in-Ok-clause-ends g c = λ p digest form name file bare.
       returned = c.play_script.ensures.returned ∙ c.in-Ok.ensures.returned;
       later = c.play_script.ensures.later;
       sure = λ s. (c.in-Ok.ensures.sure s).1;
-    }) c.play_script.ensures.plays c.play_script.ensures.wrote)
+    }) c.play_script.ensures.plays)
 
 pub returns-in-Err-Failed-clause-ends : goal.returns-in-Err-Failed-clause-ends
 returns-in-Err-Failed-clause-ends g c = λ p digest form name file bare.

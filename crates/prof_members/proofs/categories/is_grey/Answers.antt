@@ -2,7 +2,7 @@ use Rattle.std.proofs.Common.{◌∙◌}
 use Rattle.std.specs.Prelude.{codes}
 use Rattle.prof_grammar.specs.Value.{Value}
 use Rattle.prof_members.proofs.Begun.{reads_string}
-use Rattle.prof_members.proofs.FieldTexts.{same-bytes}
+use Rattle.prof_schema.proofs.Entries.{same-bytes}
 use Rattle.prof_members.proofs.categories.is_grey.Goals as goal
 
 pub returns-in-Str-clause-grey : goal.returns-in-Str-clause-grey

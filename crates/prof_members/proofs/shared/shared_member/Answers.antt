@@ -1,6 +1,6 @@
 use Rattle.std.specs.Prelude.{codes}
 use Rattle.prof_members.specs.declared.shared.SharedMember.TheVariants as member
-use Rattle.prof_members.proofs.Slots.{differs}
+use Rattle.prof_schema.proofs.Slots.{differs}
 use Rattle.prof_members.proofs.shared.shared_member.Goals as goal
 
 pub returns-in_default-clause-none : goal.returns-in_default-clause-none

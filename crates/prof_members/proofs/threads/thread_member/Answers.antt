@@ -1,6 +1,6 @@
 use Rattle.std.specs.Prelude.{codes}
 use Rattle.prof_members.specs.declared.threads.ThreadMember.TheVariants as member
-use Rattle.prof_members.proofs.Slots.{differs}
+use Rattle.prof_schema.proofs.Slots.{differs}
 use Rattle.prof_members.proofs.threads.thread_member.Goals as goal
 
 pub returns-in-None-clause-none : goal.returns-in-None-clause-none

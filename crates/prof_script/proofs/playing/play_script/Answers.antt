@@ -2,14 +2,11 @@ use Rattle.std.proofs.Common.{◌≡◌, ◌∙◌, ◌++◌, ◌∷◌, [], Lis
 use Rattle.std.specs.Prelude.{⊤, Result}
 use Rattle.std.proofs.lemmas.Bool.Decides.{Decides-eqb}
 use Rattle.std.proofs.lemmas.List.{map-append}
-use Rattle.prof_io.specs.Outside.{seen}
-use Rattle.prof_io.specs.Sinks.{Wrote}
 use Rattle.prof_request.proofs.OutcomeLemmas.{line_of}
 use Rattle.prof_machine.specs.Play.{Line}
-use Rattle.prof_writer.proofs.Outputs.{writes_none, writes_then}
 use Rattle.prof_script.specs.declared.playing.PlayEnd.{PlayEnd}
 use Rattle.prof_script.specs.Lines.{lines, lines_of, some_line}
-use Rattle.prof_script.specs.Playing.{IsHeld, Plays, output_end, stage}
+use Rattle.prof_script.specs.Playing.{IsHeld, Plays, stage}
 use Rattle.prof_script.proofs.Plays.{plays_cut, plays_nothing, plays_on, same_err}
 use Rattle.prof_script.proofs.playing.play_script.Goals as goal
 
@@ -24,9 +21,8 @@ no_lines (x ∷ text) b t e = let none : length (x ∷ text) ≡ 0 = (Decides-eq
 
 pub loop-rest-init : goal.loop-rest-init
 loop-rest-init g c = record {
-  plays = λ held laid is lies.
-      ([], refl, plays_nothing c.args.desk.now.profiles held laid (stage g.K.Counted g.K.Keeper g.S.Counted c.args.desk.now c.args.keeper.now c.args.out.now c.args.reads.now) tt is lies);
-  wrote = ([], writes_none (seen g.S.Counted c.args.out.now));
+  plays = λ told held laid is lies.
+      ([], refl, plays_nothing c.args.desk.now.profiles told held laid (stage g.K.Counted g.K.Keeper g.S.Counted c.args.desk.now c.args.keeper.now c.args.out.now c.args.reads.now) tt is lies);
   profiles = refl;
   called = refl;
   returned = refl;
@@ -48,19 +44,16 @@ returns-in_err-play_line g c =
     let split : lines_of c.loop-rest.rest.now ≡ map line_of (some_line line) ++ lines_of behind =
     cut c.loop-rest.rest.now line behind (c.line_len-len.ensures.lines ∙ ap (λ l. some_line l ++ lines behind) (sym c.front-line.ensures)) in
     record {
-      plays = λ held laid is lies.
-          let so = inv.plays held laid is lies in
+      plays = λ told held laid is lies.
+          let so = inv.plays told held laid is lies in
           let all : lines_of c.args.script.now ≡ (so.0 ++ map line_of (some_line line)) ++ lines_of behind =
           so.1 ∙ ap (λ l. so.0 ++ l) split ∙ sym (append_assoc so.0 (map line_of (some_line line)) (lines_of behind)) in
-          subst (λ (r : Result ⊤ PlayEnd). Plays ps held laid (lines_of c.args.script.now) old new r) (sym same)
-          (subst (λ (ls : List Line). Plays ps held laid ls old new (Err end)) (sym all)
-          (plays_cut ps held laid (so.0 ++ map line_of (some_line line)) (lines_of behind) old new end
-          (plays_on ps held laid so.0 (map line_of (some_line line)) old mid new tt (Err end) so.2
-          (λ now lays isd lie. subst (λ p. Plays p now lays (map line_of (some_line line)) mid new (Err end)) isd.known
-          (c.in_err-play_line.ensures.plays now lays (subst (λ p. IsHeld p c.loop-rest.desk (g.K.Keeper.texts c.loop-rest.keeper) now) (sym isd.known) isd) lie)))));
-      wrote =
-          let two = c.in_err-play_line.ensures.wrote in
-          (inv.wrote.0 ++ two.0, subst (λ (r : Result ⊤ PlayEnd). Wrote {T = ⊤} {E = ⊤} (seen g.S.Counted c.args.out.now) (seen g.S.Counted c.play_line.new.out) (output_end r) (inv.wrote.0 ++ two.0)) (sym same) (writes_then inv.wrote.1 two.1));
+          subst (λ (r : Result ⊤ PlayEnd). Plays ps told held laid (lines_of c.args.script.now) old new r) (sym same)
+          (subst (λ (ls : List Line). Plays ps told held laid ls old new (Err end)) (sym all)
+          (plays_cut ps told held laid (so.0 ++ map line_of (some_line line)) (lines_of behind) old new end
+          (plays_on ps told held laid so.0 (map line_of (some_line line)) old mid new tt (Err end) so.2
+          (λ now lays isd lie. subst (λ p. Plays p told now lays (map line_of (some_line line)) mid new (Err end)) isd.known
+          (c.in_err-play_line.ensures.plays told now lays (subst (λ p. IsHeld p told c.loop-rest.desk (g.K.Keeper.texts c.loop-rest.keeper) now) (sym isd.known) isd) lie)))));
       profiles = c.in_err-play_line.ensures.profiles ∙ inv.profiles;
       called = c.in_err-play_line.ensures.called ∙ inv.called;
       returned = c.in_err-play_line.ensures.returned ∙ inv.returned;
@@ -80,15 +73,14 @@ loop-rest-preserved g c =
     let split : lines_of c.loop-rest.rest.now ≡ map line_of (some_line line) ++ lines_of c.behind-rest.result.now =
     cut c.loop-rest.rest.now line c.behind-rest.result.now (c.line_len-len.ensures.lines ∙ ap (λ l. some_line l ++ lines behind) (sym c.front-line.ensures) ∙ ap (λ l. some_line line ++ lines l) (sym c.behind-rest.ensures)) in
     record {
-      plays = λ held laid is lies.
-          let so = inv.plays held laid is lies in (
+      plays = λ told held laid is lies.
+          let so = inv.plays told held laid is lies in (
             so.0 ++ map line_of (some_line line),
             so.1 ∙ ap (λ l. so.0 ++ l) split ∙ sym (append_assoc so.0 (map line_of (some_line line)) (lines_of c.behind-rest.result.now)),
-            plays_on ps held laid so.0 (map line_of (some_line line)) old mid new tt (Ok tt) so.2
-                (λ now lays isd lie. subst (λ p. Plays p now lays (map line_of (some_line line)) mid new (Ok tt)) isd.known
-                (c.in_ok-play_line.ensures.plays now lays (subst (λ p. IsHeld p c.loop-rest.desk (g.K.Keeper.texts c.loop-rest.keeper) now) (sym isd.known) isd) lie)),
+            plays_on ps told held laid so.0 (map line_of (some_line line)) old mid new tt (Ok tt) so.2
+                (λ now lays isd lie. subst (λ p. Plays p told now lays (map line_of (some_line line)) mid new (Ok tt)) isd.known
+                (c.in_ok-play_line.ensures.plays told now lays (subst (λ p. IsHeld p told c.loop-rest.desk (g.K.Keeper.texts c.loop-rest.keeper) now) (sym isd.known) isd) lie)),
           );
-      wrote = let two = c.in_ok-play_line.ensures.wrote in (inv.wrote.0 ++ two.0, writes_then inv.wrote.1 two.1);
       profiles = c.in_ok-play_line.ensures.profiles ∙ inv.profiles;
       called = c.in_ok-play_line.ensures.called ∙ inv.called;
       returned = c.in_ok-play_line.ensures.returned ∙ inv.returned;
@@ -97,9 +89,9 @@ loop-rest-preserved g c =
     }
 
 pub returns-clause-plays : goal.returns-clause-plays
-returns-clause-plays g c = λ held laid is lies.
-    let so = c.loop-rest.invariant.plays held laid is lies in
+returns-clause-plays g c = λ told held laid is lies.
+    let so = c.loop-rest.invariant.plays told held laid is lies in
     let old = stage g.K.Counted g.K.Keeper g.S.Counted c.args.desk.now c.args.keeper.now c.args.out.now c.args.reads.now in
     let now = stage g.K.Counted g.K.Keeper g.S.Counted c.loop-rest.desk c.loop-rest.keeper c.loop-rest.out c.loop-rest.reads in
     let over : lines_of c.loop-rest.rest.now ≡ [] = no_lines c.loop-rest.rest.now c.is_empty.result c.loop-rest-test.false c.is_empty.ensures in
-    subst (λ (ls : List Line). Plays c.args.desk.now.profiles held laid ls old now (Ok tt)) (sym (so.1 ∙ ap (λ l. so.0 ++ l) over ∙ append-nil so.0)) so.2
+    subst (λ (ls : List Line). Plays c.args.desk.now.profiles told held laid ls old now (Ok tt)) (sym (so.1 ∙ ap (λ l. so.0 ++ l) over ∙ append-nil so.0)) so.2

@@ -1,8 +1,5 @@
 -- The lines so far were played, and what is left has the others.
-use Rattle.std.proofs.Common.{◌≡◌, ◌≤◌, ℕ, List, ◌++◌, length, Ok}
-use Rattle.std.specs.Prelude.{⊤}
-use Rattle.prof_io.specs.Outside.{seen}
-use Rattle.prof_io.specs.Sinks.{Wrote}
+use Rattle.std.proofs.Common.{◌≡◌, ◌≤◌, ℕ, Bool, List, ◌++◌, length, Ok}
 use Rattle.prof_machine.specs.Play.{Held, Line}
 use Rattle.prof_script.specs.Lines.{lines_of}
 use Rattle.prof_script.specs.Playing.{IsHeld, Plays, stage}
@@ -11,10 +8,9 @@ use Rattle.prof_script.proofs.playing.play_script.Given as goal
 
 abbrev pub invariant-loop-rest : goal.invariant-loop-rest
 invariant-loop-rest g l = record {
-  plays : (held : Held) (laid : List (List ℕ × Laid)) → IsHeld l.fn.desk.profiles l.fn.desk (g.K.Keeper.texts l.fn.keeper) held → AreLaid l.fn.desk laid →
-      (done : List Line) × (lines_of l.fn.script ≡ done ++ lines_of l.rest) × Plays l.fn.desk.profiles held laid done
+  plays : (told : Bool) (held : Held) (laid : List (List ℕ × Laid)) → IsHeld l.fn.desk.profiles told l.fn.desk (g.K.Keeper.texts l.fn.keeper) held → AreLaid l.fn.desk laid →
+      (done : List Line) × (lines_of l.fn.script ≡ done ++ lines_of l.rest) × Plays l.fn.desk.profiles told held laid done
       (stage g.K.Counted g.K.Keeper g.S.Counted l.fn.desk l.fn.keeper l.fn.out l.fn.reads) (stage g.K.Counted g.K.Keeper g.S.Counted l.desk l.keeper l.out l.reads) (Ok tt);
-  wrote : (text : List ℕ) × Wrote {T = ⊤} {E = ⊤} (seen g.S.Counted l.fn.out) (seen g.S.Counted l.out) (Ok tt) text;
   profiles : l.desk.profiles ≡ l.fn.desk.profiles;
   called : g.K.Keeper.called_at l.keeper ≡ g.K.Keeper.called_at l.fn.keeper;
   returned : g.K.Keeper.returned_at l.keeper ≡ g.K.Keeper.returned_at l.fn.keeper;

@@ -1,15 +1,16 @@
 -- Each message that came so far was answered, and none of them was the last.
-use Rattle.std.proofs.Common.{◌≡◌, ◌≤◌}
+use Rattle.std.proofs.Common.{◌≡◌, ◌≤◌, ℕ, Bool, List}
 use Rattle.prof_machine.specs.Play.{Held}
 use Rattle.prof_script.specs.Playing.{IsHeld, stage}
+use Rattle.prof_script.specs.Readings.{AreLaid, Laid}
 use Rattle.prof_serve.proofs.Servings.{HasServed}
 use Rattle.prof_serve.proofs.serving.serve_connection.Given as goal
 
 abbrev pub invariant-messages : goal.invariant-messages
 invariant-messages g l = record {
   given : l.wire.given ≡ l._count;
-  serves : (held : Held) → IsHeld l.fn.desk.profiles l.fn.desk (g.K.Keeper.texts l.fn.keeper) held →
-      HasServed l.fn.desk.profiles held (stage g.K.Counted g.K.Keeper g.H.Counted l.fn.desk l.fn.keeper l.fn.hall l.fn.reads)
+  serves : (told : Bool) (held : Held) (laid : List (List ℕ × Laid)) → IsHeld l.fn.desk.profiles told l.fn.desk (g.K.Keeper.texts l.fn.keeper) held → AreLaid l.fn.desk laid →
+      HasServed l.fn.desk.profiles told held laid (stage g.K.Counted g.K.Keeper g.H.Counted l.fn.desk l.fn.keeper l.fn.hall l.fn.reads)
       (stage g.K.Counted g.K.Keeper g.H.Counted l.desk l.keeper l.hall l.reads) l.wire l._count;
   place : g.H.Counted.place l.hall ≡ g.H.Counted.place l.fn.hall;
   calm : g.H.Counted.faults l.hall ≡ g.H.Counted.faults l.fn.hall;

@@ -1,4 +1,4 @@
-use Rattle.std.proofs.Common.{◌≡◌, ◌∙◌, ◌∷◌, [], List, ◌+◌, ◌++◌, map, drop, ap, sym, subst, refl, Ok, Err, append-nil, append_assoc, arith}
+use Rattle.std.proofs.Common.{◌≡◌, ◌∙◌, ◌∷◌, [], List, ◌+◌, ◌++◌, map, drop, ap, sym, subst, refl, true, Ok, Err, append-nil, append_assoc, arith}
 use Rattle.std.specs.Prelude.{⊤, Result}
 use Rattle.prof_machine.specs.Play.{Line}
 use Rattle.prof_request.proofs.OutcomeLemmas.{line_of}
@@ -38,7 +38,7 @@ returns-in_err-play_first g c = λ held laid sure is lies.
     (firsts_then ps held laid so.0 one old mid new (Err end) so.2
     (λ now lays isd lie. subst (λ p. PlaysFirsts p now lays one mid new (Err end)) isd.known
     (c.in_err-play_first.ensures.plays now lays (line_of line) (inv.sure sure) (one_line c.loop-place.place line c.line_at.ensures)
-    (subst (λ p. IsHeld p c.loop-place.desk (g.K.Keeper.texts c.loop-place.keeper) now) (sym isd.known) isd) lie)))))
+    (subst (λ p. IsHeld p true c.loop-place.desk (g.K.Keeper.texts c.loop-place.keeper) now) (sym isd.known) isd) lie)))))
 
 pub loop-place-preserved : goal.loop-place-preserved
 loop-place-preserved g c =
@@ -58,7 +58,7 @@ loop-place-preserved g c =
             firsts_then ps held laid so.0 one old mid new (Ok tt) so.2
                 (λ now lays isd lie. subst (λ p. PlaysFirsts p now lays one mid new (Ok tt)) isd.known
                 (c.in_ok-play_first.ensures.plays now lays (line_of line) (inv.sure sure) (one_line c.loop-place.place line c.line_at.ensures)
-                (subst (λ p. IsHeld p c.loop-place.desk (g.K.Keeper.texts c.loop-place.keeper) now) (sym isd.known) isd) lie)),
+                (subst (λ p. IsHeld p true c.loop-place.desk (g.K.Keeper.texts c.loop-place.keeper) now) (sym isd.known) isd) lie)),
           );
       profiles = c.in_ok-play_first.ensures.profiles ∙ inv.profiles;
       sure = λ s. c.in_ok-play_first.ensures.sure (inv.sure s);

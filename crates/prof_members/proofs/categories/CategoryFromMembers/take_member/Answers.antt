@@ -2,7 +2,7 @@ use Rattle.std.proofs.Common.{refl, ap, ◌∙◌, inl, inr}
 use Rattle.std.specs.Prelude.{codes}
 use Rattle.prof_members.specs.declared.categories.CategoryMember.TheVariants as member
 use Rattle.prof_members.specs.Named.{category_member_name}
-use Rattle.prof_members.proofs.Slots.{takes}
+use Rattle.prof_schema.proofs.Slots.{takes}
 use Rattle.prof_members.proofs.TableSlots.{category_more}
 use Rattle.prof_members.proofs.categories.CategoryFromMembers.take_member.Goals as goal
 

@@ -1,6 +1,6 @@
 use Rattle.std.proofs.Common.{◌≡◌, ◌<◌, ◌≤◌, ◌∙◌, ap, ℕ, List, [], ◌∷◌, ◌++◌, length, arith}
 use Rattle.prof_raw.specs.declared.limits.TheConstants.{MOST_ROWS}
-use Rattle.prof_members.specs.Fields.{field_texts}
+use Rattle.prof_schema.specs.Fields.{field_texts}
 use Rattle.prof_members.proofs.MoreItems.{markers_full, markers_added}
 use Rattle.prof_members.proofs.lists.MarkerData.add.Goals as goal
 

@@ -1,7 +1,7 @@
 use Rattle.std.proofs.Common.{◌∙◌}
 use Rattle.prof_grammar.specs.Value.{Value, no_members}
 use Rattle.prof_members.proofs.Begun.{takes_item, reads_object, not_object, no_texts}
-use Rattle.prof_members.proofs.FieldTexts.{fields-texts}
+use Rattle.prof_schema.proofs.FieldTexts.{fields-texts}
 use Rattle.prof_members.proofs.markers.MarkerDataFromItems.take_item.Goals as goal
 
 pub returns-in_ok-add-in-ObjectStart-clause-item : goal.returns-in_ok-add-in-ObjectStart-clause-item

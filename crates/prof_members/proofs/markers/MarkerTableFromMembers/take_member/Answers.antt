@@ -2,7 +2,7 @@ use Rattle.std.proofs.Common.{refl, ap, ◌∙◌, inl, inr}
 use Rattle.std.specs.Prelude.{codes}
 use Rattle.prof_members.specs.declared.markers.MarkerMember.TheVariants as member
 use Rattle.prof_members.specs.Named.{marker_name}
-use Rattle.prof_members.proofs.Slots.{takes}
+use Rattle.prof_schema.proofs.Slots.{takes}
 use Rattle.prof_members.proofs.TableSlots.{markers_more}
 use Rattle.prof_members.proofs.markers.MarkerTableFromMembers.take_member.Goals as goal
 

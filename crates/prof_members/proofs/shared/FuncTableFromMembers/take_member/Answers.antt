@@ -2,7 +2,7 @@ use Rattle.std.proofs.Common.{refl, ap, ◌∙◌, inl, inr}
 use Rattle.std.specs.Prelude.{codes}
 use Rattle.prof_members.specs.declared.shared.FuncMember.TheVariants as member
 use Rattle.prof_members.specs.Named.{func_member_name}
-use Rattle.prof_members.proofs.Slots.{takes}
+use Rattle.prof_schema.proofs.Slots.{takes}
 use Rattle.prof_members.proofs.SharedSlots.{funcs_more}
 use Rattle.prof_members.proofs.shared.FuncTableFromMembers.take_member.Goals as goal
 

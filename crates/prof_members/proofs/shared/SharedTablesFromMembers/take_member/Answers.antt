@@ -1,5 +1,5 @@
 use Rattle.std.proofs.Common.{refl}
-use Rattle.prof_members.proofs.Slots.{takes}
+use Rattle.prof_schema.proofs.Slots.{takes}
 use Rattle.prof_members.proofs.TableSlots.{shared_stay}
 use Rattle.prof_members.proofs.shared.SharedTablesFromMembers.take_member.Goals as goal
 

@@ -2,7 +2,7 @@ use Rattle.std.proofs.Common.{refl, ap, ◌∙◌, inl, inr}
 use Rattle.std.specs.Prelude.{codes}
 use Rattle.prof_members.specs.declared.threads.ThreadMember.TheVariants as member
 use Rattle.prof_members.specs.Named.{thread_member_name}
-use Rattle.prof_members.proofs.Slots.{takes}
+use Rattle.prof_schema.proofs.Slots.{takes}
 use Rattle.prof_members.proofs.TableSlots.{thread_more, shared_stay, name-own, samples-own, markers-own, shared-own}
 use Rattle.prof_members.specs.Names.{member_name}
 use Rattle.prof_members.proofs.threads.ThreadPartsFromMembers.take_member.Goals as goal

@@ -1,0 +1,11 @@
+pub mod DetailsTaken
+pub mod FoundWays
+pub mod KeptCells
+pub mod KeptParts
+pub mod KeptProfiles
+pub mod ListsTaken
+pub mod MarkerSlots
+pub mod MetaFound
+pub mod PartSlots
+pub mod Taking
+pub mod Threading

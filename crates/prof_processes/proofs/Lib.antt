@@ -1,0 +1,15 @@
+pub mod Begun
+pub mod Below
+pub mod Bounds
+pub mod ChildLists
+pub mod HeldTables
+pub mod KeptEntries
+pub mod LibLists
+pub mod LibSlots
+pub mod Options
+pub mod ProcessSlots
+pub mod Processing
+pub mod Ranges
+pub mod ThreadLists
+pub mod ThreadSlots
+pub mod Threads
