@@ -1,5 +1,5 @@
 -- A text whose writing failed, told by another error.
-use Rattle.std.proofs.Common.{◌≡◌, ℕ, ◌≤◌, List, Option, None, Some, Result, Err, length}
+use Rattle.std.proofs.Common.{ℕ, List, Option, None, Some, Err, length}
 use Rattle.std.proofs.lemmas.Bool.{false≢true}
 use Rattle.prof_io.specs.Bytes.{FitsRoom}
 use Rattle.prof_io.specs.Outside.{Seen}

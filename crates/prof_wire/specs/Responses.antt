@@ -1,11 +1,10 @@
 -- The bytes of responses.
-use Rattle.std.specs.Prelude.{◌≡◌, ℕ, Bool, true, false, List, [], ◌∷◌, ◌++◌, length, codes, decimal, unwrap_or, Some, None, IsTrue, ◌==◌}
+use Rattle.std.specs.Prelude.{ℕ, Bool, true, false, List, [], ◌∷◌, ◌++◌, length, codes, decimal, unwrap_or, Some, None, IsTrue, ◌==◌}
 use Rattle.std.specs.List.{list_any}
 use Rattle.std.specs.declared.option.Option.{Option}
 use Rattle.http.specs.StatusCode.{reason_phrase, code_digits}
 use Rattle.prof_wire.specs.declared.messages.WireEnd.{WireEnd}
 use Rattle.prof_wire.specs.declared.messages.WireEnd.TheVariants.{End, HallFault, Bad, HeadTooLong, BodyTooLong, Coded, Expect}
-use Rattle.prof_wire.specs.declared.messages.Why.{Why}
 use Rattle.prof_wire.specs.declared.messages.Why.TheVariants.{Head, Cut, Host, Length}
 
 -- the statuses of responses

@@ -1,13 +1,13 @@
 // Responses, as they are written.
-ghost use Rattle.std.specs.Prelude.{◌≡◌, ◌≤◌, length};
+ghost use Rattle.std.specs.Prelude.{◌≡◌, ◌≤◌, ◌++◌, length, IfSome};
 ghost use Rattle.prof_io.specs.Outside.{seen};
 ghost use Rattle.prof_io.specs.Sinks.{Wrote};
 ghost use Rattle.prof_wire.specs.Responses.{IsStatus, reason, allow_line, close_line, response_head, response_bytes};
 
-use arrayvec::ArrayString;
+use arrayvec::{ArrayString, ArrayVec};
 use http::StatusCode;
 use itoa::Buffer;
-use prof_io::{Hall, copy_out};
+use prof_io::{Hall, OutFault, copy_out};
 use thiserror::Error;
 
 /// The hall has failed, and has counted it.
@@ -19,6 +19,11 @@ pub struct HallFault;
 const ROOM: usize = 256;
 
 type Line = ArrayString<ROOM>;
+
+// How long a response may be that is written in one piece, so that the system is asked once.
+const SHORT: usize = 1024;
+
+type Short = ArrayVec<u8, SHORT>;
 
 // The phrase of a status.
 fn phrase(status: StatusCode) -> &'static str
@@ -70,6 +75,29 @@ fn response_head(status: StatusCode, allow: Option<bool>, last: bool, size: usiz
     line
 }
 
+// Both texts in one, where that is short.
+fn joined(head: &[u8], body: &[u8]) -> Option<Short>
+    ensures { IfSome result (λ short. short.items ≡ head.now ++ body.now) }
+{
+    let mut short = ArrayVec::new();
+    short.try_extend_from_slice(head).ok()?;
+    short.try_extend_from_slice(body).ok()?;
+    Some(short)
+}
+
+// Writes both texts, in one piece where they are short.
+fn put_both<H: Hall>(hall: &mut H, head: &[u8], body: &[u8]) -> Result<(), OutFault>
+    ensures { Wrote (seen H.Counted hall.old) (seen H.Counted hall.new) result (head.now ++ body.now) }
+{
+    if let Some(short) = joined(head, body) {
+        return copy_out(hall, short.as_slice());
+    }
+    match copy_out(hall, head) {
+        Ok(()) => copy_out(hall, body),
+        Err(fault) => Err(fault),
+    }
+}
+
 /// Writes a response into the connection that the hall serves. `allow` stands in an answer to a wrong
 /// method: whether `GET` serves the command, besides `POST`. `last` says that the connection ends
 /// after it.
@@ -86,11 +114,8 @@ pub fn write_response<H: Hall>(
     ensures { Wrote (seen H.Counted hall.old) (seen H.Counted hall.new) result (response_bytes status allow last body.now) }
 {
     let head = response_head(status, allow, last, body.len());
-    match copy_out(hall, head.as_bytes()) {
-        Ok(()) => match copy_out(hall, body) {
-            Ok(()) => Ok(()),
-            Err(_) => Err(HallFault),
-        },
+    match put_both(hall, head.as_bytes(), body) {
+        Ok(()) => Ok(()),
         Err(_) => Err(HallFault),
     }
 }
