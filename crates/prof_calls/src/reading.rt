@@ -134,7 +134,7 @@ fn expect(rt: &impl Abort, alloc: Global, bytes: &[u8], wanted: &str) -> Result<
 }
 
 /// Texts that are read to their end. Those that are refused are worked cases of the program.
-const READ: [(&[u8], &str); 16] = [
+const READ: [(&[u8], &str); 18] = [
     (
         b" [1, -2.5e+3 ,true,false,null,{\"a\" : [ ] , \"b\":{}},\"x\"]\n",
         "[ 1 -2.5e+3 yes no null { a: [ ] b: { } } \"x\" ] end",
@@ -143,6 +143,14 @@ const READ: [(&[u8], &str); 16] = [
     (b"-0.50E-07", "-0.50E-07 end"),
     (b"[5,0,7.25,10 ,0.5]", "[ 5 0 7.25 10 0.5 ] end"),
     (b"[5,2e3,-4]", "[ 5 2e3 -4 ] end"),
+    (
+        b"{\"type\":\"Text\",\"count\":12,\"rate\":0.5,\"\":\"\"}",
+        "{ type: \"Text\" count: 12 rate: 0.5 : \"\" } end",
+    ),
+    (
+        b"[\"a\",\"b\\\"\",\"\",{\"c\":-1,\"d\\n\":2e1}]",
+        "[ \"a\" \"b\"\" \"\" { c: -1 d\n: 2e1 } ] end",
+    ),
     (
         b"\"\\\"\\\\\\/\\b\\f\\n\\r\\t\\u00e9\\u00E9\"",
         "\"\"\\/\x08\x0C\n\r\t\u{E9}\u{E9}\" end",
@@ -217,6 +225,19 @@ fn failing_reads(rt: HostRuntime) -> Result<(), Fail> {
             Event::End,
         )?;
         assert!(rt; out.as_str().ends_with("unread"));
+    }
+    Ok(())
+}
+
+/// Each token lies once across the edge of the window.
+#[test]
+fn tokens_pass_the_edge_of_the_window(rt: HostRuntime) -> Result<(), Fail> {
+    let alloc = rt.alloc();
+    for blanks in 65_505..65_538 {
+        let mut text = vec![in alloc; b' '; blanks]?;
+        text.extend_from_slice(b"[{\"a\":\"bc\",\"d\":12},\"ef\",34]")?;
+        let out = told(alloc, &text, 100_000, vec![in alloc]?, 100_000, Event::End)?;
+        assert_eq!(rt; out.as_str(), "[ { a: \"bc\" d: 12 } \"ef\" 34 ] end");
     }
     Ok(())
 }

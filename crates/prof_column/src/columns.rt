@@ -13,7 +13,7 @@ use prof_gather::{Feed, FromItems, GatherRefusal, Kind, Start, array, skip_behin
 use prof_io::{NoMemory, Source};
 use prof_json::Event;
 use prof_layout::Reading;
-use prof_raw::{BadCell, RawColumn, State, TableLength};
+use prof_raw::{BadCell, CellList, RawColumn, State, TableLength};
 use prof_time::read_exact;
 use std::alloc::Global;
 
@@ -23,7 +23,7 @@ pub fn empty_column(alloc: Global, state: State) -> RawColumn
 {
     RawColumn {
         state,
-        values: Vec::new(alloc),
+        values: CellList::new(alloc),
         bad: None,
     }
 }

@@ -34,9 +34,12 @@ stacks number = map (stack_text number) (below 200000)
 abbrev pub times : List (List ℕ)
 times = map time_text (below 200000)
 
+-- what stands before the first column
+abbrev pub head_text : List ℕ
+head_text = codes "{\"meta\":{\"preprocessedProfileVersion\":0},\"libs\":[],\"threads\":[{\"name\":\"gen\",\"stringArray\":[\"f0\",\"f1\",\"f2\",\"f3\",\"f4\",\"f5\",\"f6\",\"f7\"],\"funcTable\":{\"name\":[0,1,2,3,4,5,6,7]},\"frameTable\":{\"func\":[0,1,2,3,4,5,6,7]},\"stackTable\":{\"frame\":["
+
 abbrev pub stacks_text : List ℕ
-stacks_text = codes "{\"meta\":{\"preprocessedProfileVersion\":0},\"libs\":[],\"threads\":[{\"name\":\"gen\",\"stringArray\":[\"f0\",\"f1\",\"f2\",\"f3\",\"f4\",\"f5\",\"f6\",\"f7\"],\"funcTable\":{\"name\":[0,1,2,3,4,5,6,7]},\"frameTable\":{\"func\":[0,1,2,3,4,5,6,7]},\"stackTable\":{\"frame\":["
-    ++ (join_with_byte 44 frames ++ (codes "],\"prefix\":[" ++ join_with_byte 44 prefixes))
+stacks_text = head_text ++ (join_with_byte 44 frames ++ (codes "],\"prefix\":[" ++ join_with_byte 44 prefixes))
 
 abbrev pub samples_text : ℕ → List ℕ
 samples_text number = codes "]},\"samples\":{\"stack\":[" ++ (join_with_byte 44 (stacks number) ++ (codes "],\"time\":[" ++ (join_with_byte 44 times ++ codes "]}}]}")))

@@ -1,10 +1,10 @@
 //! The columns of the profile that is made.
-ghost use Rattle.prof_demo.specs.Generated.{frames, prefixes, prefix_text, stacks, times};
-ghost use Rattle.prof_io.specs.Outside.{seen};
-ghost use Rattle.prof_page.specs.Gathering.{Gathers};
+ghost use Rattle.std.specs.Prelude.{◌≡◌};
+ghost use Rattle.std.specs.Fmt.{decimal};
+ghost use Rattle.prof_demo.specs.Generated.{frame_text, frames, prefix_text, prefixes, stack_text, stacks, time_text, times};
 
 use arrayvec::ArrayString;
-use itoa::{Buffer, Integer};
+use itoa::Buffer;
 use prof_io::{OutFault, Sink};
 use prof_page::{Column, Page, add_text};
 use prof_time::write_scaled;
@@ -20,13 +20,48 @@ const FUNCS: u32 = 8;
 /// The nanoseconds between two samples.
 const STEP: u64 = 1_000;
 
-/// Adds a number, with no line between, which would be one copy more.
-fn add_number<S: Sink, I: Integer>(out: &mut S, page: &mut Page, number: I) -> Result<(), OutFault>
-    ensures { Gathers (seen S.Counted out.old) (seen S.Counted out.new) result
-        page.old.bytes (I.text number) page.new.bytes }
+/// The text of a cell.
+pub type Cell = ArrayString<32>;
+
+fn number_cell(number: u64) -> Cell
+    ensures { result.bytes ≡ decimal number }
 {
+    let mut cell = Cell::new();
     let mut buffer = Buffer::new();
-    add_text(out, page, buffer.format(number))
+    cell.push_str(buffer.format(number));
+    cell
+}
+
+pub fn frame_cell(row: u32) -> Cell
+    ensures { result.bytes ≡ frame_text row }
+{
+    number_cell((row % FUNCS) as u64)
+}
+
+pub fn prefix_cell(row: u32) -> Cell
+    ensures { result.bytes ≡ prefix_text row }
+{
+    if row > 0 {
+        return number_cell((row - 1) as u64);
+    }
+    let mut cell = Cell::new();
+    cell.push_str("null");
+    cell
+}
+
+pub fn stack_cell(number: u32, row: u32) -> Cell
+    ensures { result.bytes ≡ stack_text number row }
+{
+    number_cell((row as u64 + number as u64) % ROWS as u64)
+}
+
+pub fn time_cell(row: u32) -> Cell
+    ensures { result.bytes ≡ time_text row }
+{
+    let time = STEP * row as u64;
+    let mut cell = Cell::new();
+    write_scaled(time as i64, 6, &mut cell);
+    cell
 }
 
 /// The frame of each stack row: one function after another, over and over.
@@ -41,7 +76,8 @@ impl Column for Frames {
     }
 
     fn add_cell<S: Sink>(&self, out: &mut S, page: &mut Page, row: u32) -> Result<(), OutFault> {
-        add_number(out, page, row % FUNCS)
+        let cell = frame_cell(row);
+        add_text(out, page, cell.as_str())
     }
 }
 
@@ -57,18 +93,8 @@ impl Column for Prefixes {
     }
 
     fn add_cell<S: Sink>(&self, out: &mut S, page: &mut Page, row: u32) -> Result<(), OutFault> {
-        add_prefix(out, page, row)
-    }
-}
-
-fn add_prefix<S: Sink>(out: &mut S, page: &mut Page, row: u32) -> Result<(), OutFault>
-    ensures { Gathers (seen S.Counted out.old) (seen S.Counted out.new) result
-        page.old.bytes (prefix_text row) page.new.bytes }
-{
-    if row > 0 {
-        add_number(out, page, row - 1)
-    } else {
-        add_text(out, page, "null")
+        let cell = prefix_cell(row);
+        add_text(out, page, cell.as_str())
     }
 }
 
@@ -86,8 +112,8 @@ impl Column for SampleStacks {
     }
 
     fn add_cell<S: Sink>(&self, out: &mut S, page: &mut Page, row: u32) -> Result<(), OutFault> {
-        let place = (row as u64 + self.number as u64) % ROWS as u64;
-        add_number(out, page, place)
+        let cell = stack_cell(self.number, row);
+        add_text(out, page, cell.as_str())
     }
 }
 
@@ -103,9 +129,7 @@ impl Column for Times {
     }
 
     fn add_cell<S: Sink>(&self, out: &mut S, page: &mut Page, row: u32) -> Result<(), OutFault> {
-        let time = STEP * row as u64;
-        let mut text = ArrayString::new();
-        write_scaled(time as i64, 6, &mut text);
-        add_text(out, page, text.as_str())
+        let cell = time_cell(row);
+        add_text(out, page, cell.as_str())
     }
 }

@@ -10,16 +10,16 @@ use crate::columns::{Frames, Prefixes, SampleStacks, Times};
 use prof_io::{OutFault, Sink};
 use prof_page::{Page, add_column, add_text, write_page};
 
+/// What stands before the first column.
+pub const HEAD: &str =
+    "{\"meta\":{\"preprocessedProfileVersion\":0},\"libs\":[],\"threads\":[{\"name\":\"gen\",\"stringArray\":[\"f0\",\"f1\",\"f2\",\"f3\",\"f4\",\"f5\",\"f6\",\"f7\"],\"funcTable\":{\"name\":[0,1,2,3,4,5,6,7]},\"frameTable\":{\"func\":[0,1,2,3,4,5,6,7]},\"stackTable\":{\"frame\":[";
+
 /// Adds the stack rows, and what stands before them.
 fn add_stacks<S: Sink>(out: &mut S, page: &mut Page) -> Result<(), OutFault>
     ensures { Gathers (seen S.Counted out.old) (seen S.Counted out.new) result
         page.old.bytes stacks_text page.new.bytes }
 {
-    add_text(
-        out,
-        page,
-        "{\"meta\":{\"preprocessedProfileVersion\":0},\"libs\":[],\"threads\":[{\"name\":\"gen\",\"stringArray\":[\"f0\",\"f1\",\"f2\",\"f3\",\"f4\",\"f5\",\"f6\",\"f7\"],\"funcTable\":{\"name\":[0,1,2,3,4,5,6,7]},\"frameTable\":{\"func\":[0,1,2,3,4,5,6,7]},\"stackTable\":{\"frame\":[",
-    )?;
+    add_text(out, page, HEAD)?;
     add_column(out, page, &Frames)?;
     add_text(out, page, "],\"prefix\":[")?;
     add_column(out, page, &Prefixes)

@@ -3,5 +3,8 @@
 
 mod columns;
 mod generating;
+mod part;
+mod source;
 
 pub use generating::generate;
+pub use source::GeneratedSource;

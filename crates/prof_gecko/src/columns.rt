@@ -1,13 +1,13 @@
 //! The columns of a Gecko thread by their names.
-ghost use Rattle.std.specs.Prelude.{◌≡◌, ◌≢◌, ℕ, slice_index_or};
+ghost use Rattle.std.specs.Prelude.{◌≡◌, ◌≢◌, ℕ, slice_index_or, IfOk};
 ghost use Rattle.prof_gecko.specs.Gathered.{no_column};
 ghost use Rattle.prof_gecko.specs.Columns.{frame_cells, stack_cells, moved_column, parts_of, shift_of};
 
 use crate::gathered::{GeckoTable, GeckoThread, TableFault};
 use crate::shift::Shift;
 use prof_io::Text;
-use prof_raw::{ListFault, RawColumn, RawOwn, State, Strings, TableLength, Unit};
-use std::alloc::Global;
+use prof_raw::{CellList, ListFault, RawColumn, RawOwn, State, Strings, TableLength, Unit};
+use std::alloc::{AllocError, Global};
 use std::marker::Model;
 use std::rc::Rc;
 
@@ -83,7 +83,7 @@ fn no_column(alloc: Global) -> RawColumn
 {
     RawColumn {
         state: State::Absent,
-        values: Vec::new(alloc),
+        values: CellList::new(alloc),
         bad: None,
     }
 }
@@ -142,17 +142,15 @@ struct SampleColumns {
 }
 
 impl SampleColumns {
-    fn of(alloc: Global, shift: Shift, mut columns: Vec<RawColumn>) -> Self
-        ensures stack { result.stack ≡ slice_index_or columns.items 0 no_column }
-        ensures time { result.time
-            ≡ moved_column (shift_of shift) (slice_index_or columns.items 1 no_column) }
+    fn of(alloc: Global, shift: Shift, mut columns: Vec<RawColumn>) -> Result<Self, AllocError>
+        ensures stack { IfOk result (λ c. c.stack ≡ slice_index_or columns.items 0 no_column) }
+        ensures time { IfOk result (λ c. c.time
+            ≡ moved_column (shift_of shift) (slice_index_or columns.items 1 no_column)) }
     {
         let stack = take_column(alloc, &mut columns, 0);
         let time = take_column(alloc, &mut columns, 1);
-        SampleColumns {
-            stack,
-            time: shift.moved_column(time),
-        }
+        let time = shift.moved_column(alloc, time)?;
+        Ok(SampleColumns { stack, time })
     }
 }
 
@@ -167,66 +165,81 @@ struct MarkerColumns {
 }
 
 impl MarkerColumns {
-    fn of(alloc: Global, shift: Shift, mut columns: Vec<RawColumn>) -> Self
-        ensures phase { result.phase ≡ slice_index_or columns.items 0 no_column }
-        ensures name { result.name ≡ slice_index_or columns.items 1 no_column }
-        ensures start { result.start
-            ≡ moved_column (shift_of shift) (slice_index_or columns.items 2 no_column) }
-        ensures end { result.end
-            ≡ moved_column (shift_of shift) (slice_index_or columns.items 3 no_column) }
-        ensures details { result.details ≡ slice_index_or columns.items 4 no_column }
+    fn of(alloc: Global, shift: Shift, mut columns: Vec<RawColumn>) -> Result<Self, AllocError>
+        ensures phase { IfOk result (λ c. c.phase ≡ slice_index_or columns.items 0 no_column) }
+        ensures name { IfOk result (λ c. c.name ≡ slice_index_or columns.items 1 no_column) }
+        ensures start { IfOk result (λ c. c.start
+            ≡ moved_column (shift_of shift) (slice_index_or columns.items 2 no_column)) }
+        ensures end { IfOk result (λ c. c.end
+            ≡ moved_column (shift_of shift) (slice_index_or columns.items 3 no_column)) }
+        ensures details { IfOk result (λ c. c.details
+            ≡ slice_index_or columns.items 4 no_column) }
     {
         let phase = take_column(alloc, &mut columns, 0);
         let name = take_column(alloc, &mut columns, 1);
         let start = take_column(alloc, &mut columns, 2);
         let end = take_column(alloc, &mut columns, 3);
         let details = take_column(alloc, &mut columns, 4);
-        MarkerColumns {
+        let start = shift.moved_column(alloc, start)?;
+        let end = shift.moved_column(alloc, end)?;
+        Ok(MarkerColumns {
             phase,
             name,
-            start: shift.moved_column(start),
-            end: shift.moved_column(end),
+            start,
+            end,
             details,
-        }
+        })
     }
 }
 
 impl ThreadColumns {
     /// The columns of a thread, whose times are moved.
     #[tactic(auto, unfolding(crate::specs::Columns::parts_of))]
-    pub(crate) fn of(alloc: Global, shift: Shift, thread: GeckoThread) -> Self
-        ensures { result ≡ parts_of (shift_of shift) thread }
+    pub(crate) fn of(alloc: Global, shift: Shift, thread: GeckoThread) -> Result<Self, AllocError>
+        ensures { IfOk result (λ columns. columns ≡ parts_of (shift_of shift) thread) }
     {
-        let samples_fault = thread.samples.fault;
-        let markers_fault = thread.markers.fault;
-        let samples = SampleColumns::of(alloc, shift, thread.samples.columns);
-        let markers = MarkerColumns::of(alloc, shift, thread.markers.columns);
+        let GeckoThread {
+            name,
+            strings,
+            string_fault,
+            frame,
+            stack,
+            samples,
+            has_markers,
+            markers,
+            marker_texts,
+            marker_ranges,
+        } = thread;
+        let samples_fault = samples.fault;
+        let markers_fault = markers.fault;
+        let samples = SampleColumns::of(alloc, shift, samples.columns)?;
+        let markers = MarkerColumns::of(alloc, shift, markers.columns)?;
         let own = RawOwn {
-            name: thread.name,
+            name,
             sample_stack: samples.stack,
             sample_time: samples.time,
             deltas: false,
             unit: Some(Unit::Samples),
             sample_weight: no_column(alloc),
             sample_length: TableLength::Unsaid,
-            has_markers: thread.has_markers,
+            has_markers,
             marker_phase: markers.phase,
             marker_name: markers.name,
             marker_start: markers.start,
             marker_end: markers.end,
             marker_data: markers.details,
             marker_length: TableLength::Unsaid,
-            marker_texts: thread.marker_texts,
-            marker_ranges: thread.marker_ranges,
+            marker_texts,
+            marker_ranges,
         };
-        ThreadColumns {
-            strings: thread.strings,
-            string_fault: thread.string_fault,
-            frames: FrameColumns::of(alloc, thread.frame),
-            stacks: StackColumns::of(alloc, thread.stack),
+        Ok(ThreadColumns {
+            strings,
+            string_fault,
+            frames: FrameColumns::of(alloc, frame),
+            stacks: StackColumns::of(alloc, stack),
             samples_fault,
             markers_fault,
             own,
-        }
+        })
     }
 }

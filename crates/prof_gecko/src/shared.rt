@@ -6,17 +6,17 @@ use crate::columns::StackColumns;
 use crate::derived::Derived;
 use prof_gecko_names::Func;
 use prof_io::NoMemory;
-use prof_raw::{RawColumn, RawShared, State, TableLength};
+use prof_raw::{CellList, RawColumn, RawShared, State, TableLength};
 use std::alloc::{AllocError, Global};
 use std::rc::Rc;
 
 /// A column of these cells.
-fn filled(values: Vec<Option<i64>>) -> RawColumn
-    ensures { result ≡ filled values.items }
+fn filled(alloc: Global, cells: Vec<Option<i64>>) -> RawColumn
+    ensures { result ≡ filled cells.items }
 {
     RawColumn {
         state: State::Array,
-        values,
+        values: CellList::of(alloc, cells),
         bad: None,
     }
 }
@@ -95,7 +95,7 @@ fn file_cells(alloc: Global, funcs: &[Func]) -> Result<Vec<Option<i64>>, AllocEr
 fn numbers_column(alloc: Global, numbers: &[u32]) -> Result<RawColumn, NoMemory>
     ensures { IfOk result (λ c. c ≡ numbers_column numbers.now) }
 {
-    Ok(filled(number_cells(alloc, numbers)?))
+    Ok(filled(alloc, number_cells(alloc, numbers)?))
 }
 
 /// The columns of functions.
@@ -122,11 +122,11 @@ impl FuncColumns {
             c.file_name ≡ filled (map (λ f. maybe_cell f.file) funcs.now)) }
     {
         Ok(FuncColumns {
-            name: filled(name_cells(alloc, funcs)?),
-            is_js: filled(is_js_cells(alloc, funcs)?),
-            relevant_for_js: filled(relevant_cells(alloc, funcs)?),
-            resource: filled(resource_cells(alloc, funcs)?),
-            file_name: filled(file_cells(alloc, funcs)?),
+            name: filled(alloc, name_cells(alloc, funcs)?),
+            is_js: filled(alloc, is_js_cells(alloc, funcs)?),
+            relevant_for_js: filled(alloc, relevant_cells(alloc, funcs)?),
+            resource: filled(alloc, resource_cells(alloc, funcs)?),
+            file_name: filled(alloc, file_cells(alloc, funcs)?),
         })
     }
 }

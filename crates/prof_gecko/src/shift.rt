@@ -1,9 +1,10 @@
 //! Times that are moved.
-ghost use Rattle.std.specs.Prelude.{◌≡◌, ◌+ℤ◌, ◌-ℤ◌, map};
+ghost use Rattle.std.specs.Prelude.{◌≡◌, ◌+ℤ◌, ◌-ℤ◌, map, IfOk};
 ghost use Rattle.std.specs.Option.{option_map};
 ghost use Rattle.prof_gecko.specs.Columns.{nearest_64, moved, moved_column, shift_of};
 
-use prof_raw::{GREATEST, RawColumn};
+use prof_raw::{CellList, GREATEST, RawColumn};
+use std::alloc::{AllocError, Global};
 
 /// The start of a process and that of the root. Times are moved by the one less the other.
 #[derive(Clone, Copy)]
@@ -53,24 +54,31 @@ impl Shift {
         }
     }
 
-    fn move_cells(self, cells: &mut [Option<i64>])
-        ensures { cells.new ≡ map (option_map (moved (shift_of self))) cells.old }
+    /// The cells of times moved.
+    fn moved_cells(self, alloc: Global, cells: &CellList) -> Result<CellList, AllocError>
+        ensures { IfOk result (λ list.
+            list ≡ map (option_map (moved (shift_of self))) cells.now) }
     {
-        for cell in cells.iter_mut() {
-            *cell = self.moved_cell(*cell);
+        let mut list = CellList::new(alloc);
+        for row in 0..cells.len() {
+            list.push(self.moved_cell(cells.get(row)))?;
         }
+        Ok(list)
     }
 
-    /// A column of times moved, in its own memory.
-    pub(crate) fn moved_column(self, column: RawColumn) -> RawColumn
-        ensures { result ≡ moved_column (shift_of self) column }
+    /// A column of times moved.
+    pub(crate) fn moved_column(
+        self,
+        alloc: Global,
+        column: RawColumn,
+    ) -> Result<RawColumn, AllocError>
+        ensures { IfOk result (λ moved. moved ≡ moved_column (shift_of self) column) }
     {
-        let RawColumn {
-            state,
-            mut values,
-            bad,
-        } = column;
-        self.move_cells(&mut values);
-        RawColumn { state, values, bad }
+        let values = self.moved_cells(alloc, &column.values)?;
+        Ok(RawColumn {
+            state: column.state,
+            values,
+            bad: column.bad,
+        })
     }
 }

@@ -117,6 +117,6 @@ pub(crate) fn build_thread(
         (gecko_thread_broken number common.categories libs.now (shift_of shift) thread)
         (gecko_thread common.categories common.default libs.now (shift_of shift) thread) }
 {
-    let columns = ThreadColumns::of(alloc, shift, thread);
+    let columns = ThreadColumns::of(alloc, shift, thread)?;
     build_columns(alloc, common, libs, columns, number)
 }

@@ -1,4 +1,5 @@
 pub mod Items
+pub mod Whole
 pub mod Enclosing
 pub mod Positions
 pub mod Standing

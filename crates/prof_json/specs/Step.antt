@@ -1,9 +1,11 @@
 -- What reading one event gives.
 use Rattle.std.specs.Prelude.{◌≡◌, ◌≢◌, ℕ, ◌+◌, ◌<◌, ◌≤◌, List, [], ◌∷◌, ◌++◌, length, take, true, Some}
 use Rattle.prof_token.specs.Ahead.{Ahead, IsNext, Passes}
-use Rattle.prof_token.specs.Bytes.{follows_item}
+use Rattle.prof_grammar.specs.Machine.{Part}
 use Rattle.prof_token.specs.Kept.{Kept, Gains}
 use Rattle.prof_token.specs.Numbers.{IsPlain}
+use Rattle.prof_token.specs.Stages.{may_come}
+use Rattle.prof_token.specs.Writes.{ReadsString}
 use Rattle.prof_json.specs.Nest.{Nest, Leads, phase_after}
 use Rattle.prof_json.specs.Position.{IsSound}
 use Rattle.prof_json.specs.declared.nesting.Bracket.{Bracket}
@@ -39,13 +41,19 @@ pub record IsStep (nest : Nest) (event : Event) (ys : List Bracket) (old new : A
   pub further : event ≢ e.End → old.place < new.place
   pub keeps : Keeps event k m
 
--- a comma and a plain number were passed, and this byte is shown behind them
-pub record ReadsItem (old : Ahead) (k : Kept) (new : Ahead) (m : Kept) : Type 0 where
+-- So many bytes and a plain number were passed. The byte that is shown behind them may come where these parts are still to
+-- come.
+pub record ReadsNumber (before : ℕ) (ps : List Part) (old : Ahead) (k : Kept) (new : Ahead) (m : Kept) : Type 0 where
   pub text : List ℕ
   pub plain : IsPlain text
-  pub ahead : take (length text + 1) old.bytes ≡ 44 ∷ text
-  pub passed : Passes (length text + 1) old new
+  pub ahead : old.bytes ≡ take before old.bytes ++ (text ++ new.bytes)
+  pub passed : Passes (before + length text) old new
   pub kept : Gains k text m
   pub shown : ℕ
   pub next : IsNext shown new
-  pub follows : follows_item shown ≡ true
+  pub comes : may_come ps (Some shown) ≡ true
+
+-- this byte was passed, and behind it the event, a plain string or a plain number
+pub data ReadsPlain (mark : ℕ) (ps : List Part) (old : Ahead) (k : Kept) (new : Ahead) (m : Kept) : Event → Type 0 where
+  string : take 2 old.bytes ≡ mark ∷ 34 ∷ [] → ReadsString 2 old k new m → ReadsPlain mark ps old k new m e.Str
+  number : take 1 old.bytes ≡ mark ∷ [] → ReadsNumber 1 ps old k new m → ReadsPlain mark ps old k new m e.Number

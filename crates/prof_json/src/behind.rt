@@ -8,7 +8,7 @@ use crate::Bracket;
 use prof_token::is_blank;
 
 /// Whether the byte may stand behind an item.
-pub fn may_follow_item(byte: u8) -> bool
+fn may_follow_item(byte: u8) -> bool
     ensures { result ≡ follows_item byte }
 {
     is_blank(byte) || byte == b',' || byte == b']'

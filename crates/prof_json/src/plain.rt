@@ -1,11 +1,13 @@
 // Numbers that lie whole within a window, without a sign and without an exponent, as most are.
-ghost use Rattle.std.specs.Prelude.{◌≡◌, ◌<◌, ◌≤◌, ◌+◌, ◌∷◌, true, drop, length, slice_index, take};
+ghost use Rattle.std.specs.Prelude.{◌≡◌, ◌<◌, ◌≤◌, true, false, length, take, IfErr, Ok};
 ghost use Rattle.prof_time.specs.Numeral.{IsInt};
-ghost use Rattle.prof_token.specs.Bytes.{follows_item};
+ghost use Rattle.prof_json.specs.Parts.{behind};
+ghost use Rattle.prof_json.specs.Step.{ReadsNumber};
 ghost use Rattle.prof_token.specs.Numbers.{IsFractionText, IsPlain};
 
-use crate::behind::may_follow_item;
-use prof_token::digit_len;
+use crate::behind::may_follow;
+use crate::{Bracket, JsonFault};
+use prof_token::{Buffer, Input, digit_len};
 
 /// How long the whole part of a number is that stands at the front, 0 where none does.
 fn whole_len(bytes: &[u8]) -> usize
@@ -48,21 +50,28 @@ fn number_len(bytes: &[u8]) -> usize
     whole + fraction_len(&bytes[whole..])
 }
 
-/// How long the plain number is that stands at the front behind a comma, as an item of an array does, 0 where none does or
-/// what stands behind it isn't in sight.
-pub fn item_len(bytes: &[u8]) -> usize
-    ensures within { 0 < result → result + 1 < length bytes.now }
-    ensures comma { 0 < result → slice_index bytes.now 0 ≡ 44 }
-    ensures plain { 0 < result → IsPlain (take result (drop 1 bytes.now)) }
-    ensures behind { 0 < result → follows_item (slice_index bytes.now (result + 1)) ≡ true }
+/// Reads a plain number with the bytes before it, of which so many stand ahead, where it and a byte that may stand behind
+/// it lie whole within the window, and says whether they do. Else nothing is read.
+pub fn read_plain_number(
+    input: &mut Input,
+    text: &mut Buffer,
+    brackets: &[Bracket],
+    before: usize,
+) -> Result<bool, JsonFault>
+    ensures number { result ≡ Ok true → ReadsNumber before (behind brackets.now) input.old text.old input.new text.new }
+    ensures none { result ≡ Ok false → (input.new ≡ input.old) × (text.new ≡ text.old) }
+    ensures err { IfErr result (λ fault. (fault ≡ JsonFault.NoMemory) × (input.new ≡ input.old)) }
 {
-    if bytes.is_empty() || bytes[0] != b',' {
-        return 0;
+    let ahead = input.ahead();
+    if ahead.len() < before {
+        return Ok(false);
     }
-    let rest = &bytes[1..];
+    let rest = &ahead[before..];
     let len = number_len(rest);
-    if len == rest.len() || !may_follow_item(rest[len]) {
-        return 0;
+    if len == 0 || len == rest.len() || !may_follow(brackets, Some(rest[len])) {
+        return Ok(false);
     }
-    len
+    text.push(&rest[..len])?;
+    input.pass(before + len);
+    Ok(true)
 }

@@ -16,6 +16,7 @@ ghost use Rattle.prof_token.specs.Own.{Owns};
 ghost use Rattle.prof_token.specs.Moves.{Moves, fault_of};
 
 use crate::behind::may_follow;
+use crate::plain::read_plain_number;
 use crate::{Bracket, Event, JsonFault};
 use prof_io::Source;
 use prof_token::{Buffer, Input, is_digit, pass_word, read_number, read_string};
@@ -52,8 +53,8 @@ fn begins_number(byte: u8) -> bool
     byte == b'-' || is_digit(byte)
 }
 
-/// Reads a number, whose first byte is shown, up to a byte that may stand behind it.
-fn read_whole_number<S: Source>(
+/// Reads a number, whose first byte is shown, a part at a time, up to a byte that may stand behind it.
+fn read_number_parts<S: Source>(
     input: &mut Input,
     src: &mut S,
     brackets: &[Bracket],
@@ -75,6 +76,29 @@ fn read_whole_number<S: Source>(
     } else {
         Err(input.wrong())
     }
+}
+
+/// Reads a number, whose first byte is shown, up to a byte that may stand behind it.
+fn read_whole_number<S: Source>(
+    input: &mut Input,
+    src: &mut S,
+    brackets: &[Bracket],
+    text: &mut Buffer,
+    first: u8,
+) -> Result<(), JsonFault>
+    requires next { IsNext first input.old }
+    requires begins { (first ≡ 45) ⊎ (bytes_spec.is_digit first ≡ true) }
+    ensures moves { Moves (fault_of result) input.old (seen S.Counted src.old) input.new (seen S.Counted src.new) }
+    ensures text { OnOk result (Adds IsNumeral text.old text.new) }
+    ensures further { OnOk result (input.old.place < input.new.place) }
+    ensures own { OnOk result (Owns input.old.bytes (S.left src.old) input.new.bytes (S.left src.new)) }
+    ensures exact { (begun : Kept) (qs : List Part) → step qs (class first) first ≡ machine.begin_value (class first) first (behind brackets.now) → Gains begun [] text.old → length brackets.now ≤ 256 →
+        Writes (fault_of result) begun input.old (S.left src.old) qs (λ t. number t ∷ []) input.new (S.left src.new) text.new (λ t. behind brackets.now) }
+{
+    if read_plain_number(input, text, brackets, 0)? {
+        return Ok(());
+    }
+    read_number_parts(input, src, brackets, text, first)
 }
 
 /// Begins the value whose first byte is shown, and reads it where it is no array and no object.

@@ -4,17 +4,15 @@ ghost use Rattle.prof_raw.specs.Cells.{cell, cell_at};
 ghost use Rattle.prof_raw.specs.Rules.{cell_rule, minus_or_index_rule};
 ghost use Rattle.prof_raw.specs.CellValues.{index_of, index_or_none, truth_of, weight_in};
 
+use crate::cell_list::CellList;
 use crate::column::CellKind;
 use crate::raw::{RawColumn, State};
 
 /// The cell of a row, and null past the end.
-pub fn cell_at(cells: &[Option<i64>], row: usize) -> Option<i64>
+pub fn cell_at(cells: &CellList, row: usize) -> Option<i64>
     ensures { result ≡ cell_at cells.now row }
 {
-    match cells.get(row) {
-        Some(cell) => *cell,
-        None => None,
-    }
+    cells.get(row)
 }
 
 /// The cell of a row, and null where the column is absent.

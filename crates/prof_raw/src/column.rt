@@ -3,6 +3,7 @@ ghost use Rattle.std.specs.Prelude.{◌≡◌, ◌<◌, ◌^◌, length, ℕ, So
 ghost use Rattle.std.specs.Option.{option_map};
 ghost use Rattle.prof_raw.specs.Rules.{index_rule, minus_or_index_rule, prefix_rule, range_rule, phase_rule, cell_rule, row_rule, first_row, size_rule, whole_fault, at_row, state_fault, column_fault, counted_fault};
 
+use crate::cell_list::CellList;
 use crate::limits::GREATEST;
 use crate::raw::{RawColumn, State};
 use crate::rule::{BadCell, ListFault, Rule};
@@ -134,7 +135,7 @@ fn cell_rule(kind: CellKind, row: u32, cell: Option<i64>) -> Option<Rule>
 pub(crate) fn row_rule(
     kind: CellKind,
     bad: Option<BadCell>,
-    cells: &[Option<i64>],
+    cells: &CellList,
     row: u32,
 ) -> Option<Rule>
     requires { row < length cells.now }
@@ -142,16 +143,12 @@ pub(crate) fn row_rule(
 {
     match bad {
         Some(bad) if bad.row == row => Some(bad.rule),
-        _ => cell_rule(kind, row, cells[row as usize]),
+        _ => cell_rule(kind, row, cells.get(row as usize)),
     }
 }
 
 /// The first bad row.
-pub(crate) fn first_row(
-    kind: CellKind,
-    bad: Option<BadCell>,
-    cells: &[Option<i64>],
-) -> Option<BadCell>
+pub(crate) fn first_row(kind: CellKind, bad: Option<BadCell>, cells: &CellList) -> Option<BadCell>
     requires { length cells.now < 2 ^ 32 }
     ensures { result ≡ first_row (row_rule kind bad cells.now) (length cells.now) }
 {

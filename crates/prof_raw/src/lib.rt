@@ -1,6 +1,7 @@
 //! Raw columns, as the tables of a profile are gathered, and the checks of them in a fixed order.
 #![tactic(auto)]
 
+mod cell_list;
 pub mod cells;
 mod check;
 mod column;
@@ -12,6 +13,7 @@ mod rule;
 mod strings;
 mod thread;
 
+pub use cell_list::CellList;
 pub use check::{
     check_frames, check_funcs, check_markers, check_own, check_resources, check_samples,
     check_shared, check_stacks, check_strings,

@@ -4,6 +4,7 @@ ghost use Rattle.prof_raw.specs.Rules.{first_row, range_rule};
 ghost use Rattle.prof_raw.specs.CellValues.{index_of, number_of};
 ghost use Rattle.prof_raw.specs.Moments.{time_rule, time_fault, time_name, is_needed, null_rule, moment_rule, moment_fault};
 
+use crate::cell_list::CellList;
 use crate::cells::{cell, index_of};
 use crate::column::{
     CellKind, Size, first_row, range_rule, row_fault, row_rule, size_fault, state_fault,
@@ -41,7 +42,7 @@ pub fn next_sum(sum: i64, cell: Option<i64>) -> Result<i64, Rule>
 }
 
 /// The first bad row of the deltas, by themselves and as a running sum.
-fn first_delta(bad: Option<BadCell>, cells: &[Option<i64>]) -> Option<BadCell>
+fn first_delta(bad: Option<BadCell>, cells: &CellList) -> Option<BadCell>
     requires { length cells.now < 2 ^ 32 }
     ensures { result ≡ first_row (time_rule true bad cells.now) (length cells.now) }
 {
@@ -50,7 +51,7 @@ fn first_delta(bad: Option<BadCell>, cells: &[Option<i64>]) -> Option<BadCell>
         if let Some(rule) = row_rule(CellKind::Number, bad, cells, row) {
             return Some(BadCell { row, rule });
         }
-        match next_sum(sum, cells[row as usize]) {
+        match next_sum(sum, cells.get(row as usize)) {
             Ok(next) => sum = next,
             Err(rule) => return Some(BadCell { row, rule }),
         }
@@ -58,7 +59,7 @@ fn first_delta(bad: Option<BadCell>, cells: &[Option<i64>]) -> Option<BadCell>
     None
 }
 
-fn first_time(deltas: bool, bad: Option<BadCell>, cells: &[Option<i64>]) -> Option<BadCell>
+fn first_time(deltas: bool, bad: Option<BadCell>, cells: &CellList) -> Option<BadCell>
     requires { length cells.now < 2 ^ 32 }
     ensures { result ≡ first_row (time_rule deltas bad cells.now) (length cells.now) }
 {
@@ -129,7 +130,7 @@ impl Moment {
         self,
         phases: &RawColumn,
         bad: Option<BadCell>,
-        cells: &[Option<i64>],
+        cells: &CellList,
         row: u32,
     ) -> Option<Rule>
         requires { row < length cells.now }
@@ -137,7 +138,10 @@ impl Moment {
     {
         match row_rule(CellKind::MaybeNumber, bad, cells, row) {
             Some(rule) => Some(rule),
-            None => self.null_rule(index_of(cell(phases, row as usize)), cells[row as usize]),
+            None => self.null_rule(
+                index_of(cell(phases, row as usize)),
+                cells.get(row as usize),
+            ),
         }
     }
 
@@ -146,7 +150,7 @@ impl Moment {
         self,
         phases: &RawColumn,
         bad: Option<BadCell>,
-        cells: &[Option<i64>],
+        cells: &CellList,
     ) -> Option<BadCell>
         requires { length cells.now < 2 ^ 32 }
         ensures { result

@@ -2,6 +2,7 @@
 ghost use Rattle.std.specs.Prelude.{◌≡◌, ◌<◌, ◌^◌};
 ghost use Rattle.prof_raw.specs.Checks.{resource_count};
 
+use crate::cell_list::CellList;
 use crate::rule::{BadCell, ListFault};
 use crate::strings::Strings;
 use prof_io::Text;
@@ -22,7 +23,7 @@ pub enum State {
 #[derive(Drop)]
 pub struct RawColumn {
     pub state: State,
-    pub values: Vec<Option<i64>>,
+    pub values: CellList,
     pub bad: Option<BadCell>,
 }
 
@@ -31,7 +32,7 @@ impl Model for RawColumn {
 
     ghost Value = { Cells };
 
-    ghost view = { λ c. record { state = c.state; cells = c.values.items; bad = c.bad } };
+    ghost view = { λ c. record { state = c.state; cells = c.values; bad = c.bad } };
 }
 
 /// The member `length` of a table: absent or no number, a whole number, or another number.

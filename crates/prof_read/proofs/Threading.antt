@@ -22,6 +22,9 @@ use Rattle.prof_tables.specs.declared.shared.Shared.{Shared}
 use Rattle.prof_read.specs.declared.building.Base.{Base}
 use Rattle.prof_read.specs.declared.building.Base.TheVariants as base
 use Rattle.std.specs.Prelude.{Result, Ok, Err}
+use Rattle.prof_tables.specs.declared.refusal.BuildRefusal.{BuildRefusal}
+use Rattle.prof_tables.specs.declared.refusal.BuildRefusal.TheVariants as built
+use Rattle.prof_read.specs.Refusals.{unbuilt}
 use Rattle.std.specs.Result.{IfErr, IsErrAnd}
 use Rattle.prof_read.specs.declared.refusal.ReadRefusal.{ReadRefusal}
 use Rattle.prof_read.specs.declared.refusal.ReadRefusal.TheVariants as refusal
@@ -100,3 +103,9 @@ shared_base v b shared e h = rw e at h
 pub building_memory : {X : Type 0} (r : Result X ReadRefusal) → IsErrAnd r (λ e. e ≡ refusal.NoMemory) → IfErr r IsBuilding
 building_memory (Ok x) h = tt
 building_memory (Err e) h = rw h tt
+
+-- so is each refusal of a build
+pub building_unbuilt : {X : Type 0} (refused : BuildRefusal) (r : Result X ReadRefusal) → IsErrAnd r (λ e. e ≡ unbuilt refused) → IfErr r IsBuilding
+building_unbuilt refused (Ok x) h = tt
+building_unbuilt (built.Broken broken) (Err e) h = rw h tt
+building_unbuilt built.NoMemory (Err e) h = rw h tt

@@ -5,4 +5,5 @@ pub mod SharedLemmas
 pub mod RangeLemmas
 pub mod BuildLemmas
 pub mod SampleLemmas
+pub mod ColumnLemmas
 pub mod OwnLemmas

@@ -10,5 +10,6 @@ pub mod Frames
 pub mod Ties
 pub mod Profiles
 pub mod Rows
+pub mod Samples
 pub mod Builds
 pub mod Building

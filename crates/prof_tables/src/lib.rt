@@ -10,6 +10,7 @@ mod own;
 mod profile;
 mod refusal;
 mod rows;
+mod samples;
 mod shared;
 mod stacks;
 mod thread;

@@ -8,9 +8,10 @@ ghost use Rattle.prof_tables.specs.Ties.{IsSample};
 
 use crate::markers::RawMarker;
 use crate::rows::SampleRow;
+use crate::samples::{SampleList, add_row};
 use prof_io::Text;
 use prof_raw::cells::{cell, cell_at, index, maybe_index, phase, weight};
-use prof_raw::{RawColumn, RawOwn, next_sum};
+use prof_raw::{CellList, RawColumn, RawOwn, next_sum};
 use std::alloc::{AllocError, Global};
 
 /// The time of a row, where `sum` is that of the deltas before it.
@@ -51,25 +52,27 @@ fn sample_at(stacks: u32, sum: i64, raw: &RawOwn, k: usize) -> SampleRow
 
 /// The samples that the columns stand for.
 #[tactic(auto, unfolding(crate::specs::Rows::samples_of))]
-pub(crate) fn samples_of(
-    alloc: Global,
-    stacks: u32,
-    raw: &RawOwn,
-) -> Result<Vec<SampleRow>, AllocError>
-    requires { FitSamples stacks raw.now }
-    ensures rows { IfOk result (λ v. v.items ≡ samples_of raw.now) }
-    ensures count { IfOk result (λ v. length v.items ≡ length raw.now.sample_stack.cells) }
-    ensures tied { IfOk result (λ v. All (IsSample stacks) v.items) }
+pub(crate) fn samples_of(alloc: Global, count: u32, raw: &RawOwn) -> Result<SampleList, AllocError>
+    requires { FitSamples count raw.now }
+    ensures rows { IfOk result (λ v. v ≡ samples_of raw.now) }
+    ensures count { IfOk result (λ v. length v ≡ length raw.now.sample_stack.cells) }
+    ensures tied { IfOk result (λ v. All (IsSample count) v) }
 {
     let rows = raw.sample_stack.values.len();
-    let mut samples = Vec::with_capacity(alloc, rows)?;
+    let mut stacks = Vec::with_capacity(alloc, rows)?;
+    let mut times = CellList::new(alloc);
+    let mut weights = CellList::new(alloc);
     let mut sum: i64 = 0;
     for k in 0..rows {
-        let row = sample_at(stacks, sum, raw, k);
-        samples.push(row)?;
+        let row = sample_at(count, sum, raw, k);
+        add_row(&mut stacks, &mut times, &mut weights, row)?;
         sum = row.time;
     }
-    Ok(samples)
+    Ok(SampleList {
+        stacks,
+        times,
+        weights,
+    })
 }
 
 /// The marker of a row.

@@ -12,6 +12,7 @@ use crate::markers::RawMarkers;
 use crate::own::{marker_rows_of, marker_texts_of, samples_of};
 use crate::refusal::BuildRefusal;
 use crate::rows::{FrameRow, FuncStrings, SampleRow};
+use crate::samples::SampleList;
 use crate::shared::Shared;
 use crate::stacks::Stacks;
 use prof_io::{NoMemory, Steps, Text};
@@ -27,7 +28,7 @@ pub struct Thread {
     shared: Rc<Shared>,
     name: Text,
     unit: Unit,
-    samples: Vec<SampleRow>,
+    samples: SampleList,
     markers: Rc<RawMarkers>,
 }
 
@@ -41,7 +42,7 @@ impl Model for Thread {
       shared = t.shared.value;
       name = t.name;
       unit = t.unit;
-      samples = t.samples.items;
+      samples = t.samples;
       markers = t.markers.value;
     } };
 
@@ -49,7 +50,7 @@ impl Model for Thread {
       shared = t.shared.value;
       name = t.name;
       unit = t.unit;
-      samples = t.samples.items;
+      samples = t.samples;
       markers = t.markers.value;
     }) };
 }
@@ -172,11 +173,13 @@ impl Thread {
         let shared = self.shared.clone()?;
         let name = self.name.copy(alloc)?;
         let markers = self.markers.clone()?;
+        self.keeps();
+        let samples = SampleList::of(alloc, &rows)?;
         Ok(Thread {
             shared,
             name,
             unit,
-            samples: rows,
+            samples,
             markers,
         })
     }
@@ -243,7 +246,7 @@ impl Thread {
         ensures count { result ≡ length self.now.samples }
         ensures few { result ≤ 8388608 }
     {
-        self.samples.len() as u32
+        self.samples.count() as u32
     }
 
     /// The name of a function, and of the resource of a collapsed one.
@@ -305,7 +308,7 @@ impl Thread {
         ensures time { InRange result.time }
         ensures weight { InRange result.weight }
     {
-        self.samples[k as usize]
+        self.samples.row(k as usize)
     }
 
     /// The strings.

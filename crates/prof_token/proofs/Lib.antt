@@ -8,3 +8,4 @@ pub mod Machines
 pub mod Turns
 pub mod Written
 pub mod Digits
+pub mod Strings

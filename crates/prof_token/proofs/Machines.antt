@@ -239,7 +239,7 @@ goes_long {a} {b} {c} {l} {m} {n} {ps} {qs} {es} x rest s e h = record { is = go
 
 -- ---- runs of bytes that leave the same parts to come, but for what was read
 
-reading_run : {test : ℕ → Bool} {run : List ℕ} → Each test run → (Q : List ℕ → List Part) → ((s : List ℕ) (b : ℕ) → test b ≡ true → step (Q s) (class b) b ≡ Some ([], Q (s ++ b ∷ []))) → ((s : List ℕ) → depth (Q s) ≤ max_depth) →
+pub reading_run : {test : ℕ → Bool} {run : List ℕ} → Each test run → (Q : List ℕ → List Part) → ((s : List ℕ) (b : ℕ) → test b ≡ true → step (Q s) (class b) b ≡ Some ([], Q (s ++ b ∷ []))) → ((s : List ℕ) → depth (Q s) ≤ max_depth) →
     (limit at : ℕ) (s r : List ℕ) → at + length run ≤ limit → reading limit at (Q s) (run ++ r) ≡ reading limit (at + length run) (Q (s ++ run)) r
 reading_run none Q f d limit at s r h = rw (append-nil s, add-zero)
 reading_run (more {b} {bs} p a) Q f d limit at s r h =

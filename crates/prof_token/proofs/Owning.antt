@@ -1,5 +1,5 @@
 -- What was read last, one call behind another.
-use Rattle.std.proofs.Common.{◌≡◌, ◌≢◌, inl, inr, ℕ, ◌+◌, ◌<◌, true, false, List, [], ◌∷◌, ◌++◌, length, take, drop, get_or, refl, sym, ap, ◌∙◌, subst, arith}
+use Rattle.std.proofs.Common.{◌≡◌, inl, inr, ℕ, ◌+◌, ◌<◌, false, List, [], ◌∷◌, ◌++◌, length, take, drop, get_or, refl, sym, ap, ◌∙◌, subst, arith}
 use Rattle.std.specs.Prelude.{Option, Some, None, ◌⊎◌}
 use Rattle.std.proofs.lemmas.List.{append_assoc, append-nil, length-append, take-append-drop, take_more}
 use Rattle.std.proofs.lemmas.Bool.Decides.{nat_tests}
@@ -10,7 +10,7 @@ use Rattle.prof_io.specs.Outside.{Seen}
 use Rattle.prof_token.specs.Ahead.{Ahead, Knows, IsNext, IsSame, Passes}
 use Rattle.prof_token.specs.Bytes.{Each, is_digit, is_space}
 use Rattle.prof_token.specs.Moves.{Moves, Reads}
-use Rattle.prof_token.specs.Numbers.{IsPlain, IsFractionText}
+use Rattle.prof_token.specs.Numbers.{IsPlain}
 use Rattle.prof_token.specs.Own.{EndsOwn, Owns, OwnsAny, ReadsOff}
 use Rattle.prof_token.specs.declared.fault.JsonFault.{JsonFault}
 use Rattle.prof_token.proofs.Texts.{each_digits}

@@ -1,8 +1,9 @@
 -- What is read from a window on, where a text grows.
-use Rattle.std.specs.Prelude.{◌≡◌, ℕ, List, [], Option, None, Result, Ok, Err}
+use Rattle.std.specs.Prelude.{◌≡◌, ℕ, ◌+◌, List, [], ◌∷◌, ◌++◌, length, take, Option, None, Result, Ok, Err}
 use Rattle.prof_grammar.specs.Event.{Event}
 use Rattle.prof_grammar.specs.Machine.{Part}
-use Rattle.prof_token.specs.Ahead.{Ahead}
+use Rattle.prof_token.specs.Ahead.{Ahead, Passes}
+use Rattle.prof_token.specs.Bytes.{Each, is_plain}
 use Rattle.prof_token.specs.Goes.{Goes}
 use Rattle.prof_token.specs.Kept.{Kept, Gains}
 use Rattle.prof_token.specs.declared.fault.JsonFault.{JsonFault}
@@ -31,3 +32,11 @@ value_of (Err fault) = 0
 pub record IsUnit (begun : Kept) (to : List ℕ × Option ℕ) (k : Kept) (o : Option ℕ) : Type 0 where
   pub text : Gains begun to.0 k
   pub waits : o ≡ to.1
+
+-- so many bytes, a plain text and the quote that closes it were passed
+pub record ReadsString (before : ℕ) (old : Ahead) (k : Kept) (new : Ahead) (m : Kept) : Type 0 where
+  pub text : List ℕ
+  pub plain : Each is_plain text
+  pub ahead : old.bytes ≡ take before old.bytes ++ (text ++ 34 ∷ new.bytes)
+  pub passed : Passes (before + length text + 1) old new
+  pub kept : Gains k text m

@@ -18,5 +18,5 @@ pub use fault::JsonFault;
 pub use input::Input;
 pub use number::read_number;
 pub use scan::{digit_len, is_blank, is_digit};
-pub use string::read_string;
+pub use string::{read_plain_string, read_string};
 pub use token::{need_behind_blank, pass_mark, pass_word, skip_blank};

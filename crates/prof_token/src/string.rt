@@ -1,5 +1,5 @@
 // Strings.
-ghost use Rattle.std.specs.Prelude.{◌≡◌, ◌≢◌, ℕ, ◌<◌, ◌≤◌, ◌⊎◌, List, [], ◌∷◌, ◌++◌, true, Option, None, length, IfOk, IfErr, IfSome, OnOk};
+ghost use Rattle.std.specs.Prelude.{◌≡◌, ◌≢◌, ℕ, ◌<◌, ◌≤◌, ◌⊎◌, List, [], ◌∷◌, ◌++◌, true, Option, None, length, IfOk, IfErr, IfSome, OnOk, Ok, false};
 ghost use Rattle.std.specs.Char.Utf16.{is_high_surrogate};
 ghost use Rattle.prof_io.specs.Outside.{seen};
 ghost use Rattle.prof_token.specs.Ahead.{IsNext, Passes};
@@ -8,7 +8,7 @@ ghost use Rattle.prof_grammar.specs.Machine.{Part, Role, Tail, chars, nothing, l
 ghost use Rattle.prof_grammar.specs.Reading.{max_depth};
 ghost use Rattle.prof_grammar.specs.Told.{depth};
 ghost use Rattle.prof_token.specs.Goes.{Goes};
-ghost use Rattle.prof_token.specs.Writes.{Writes, silent, shown_of, value_of};
+ghost use Rattle.prof_token.specs.Writes.{Writes, ReadsString, silent, shown_of, value_of};
 ghost use Rattle.prof_token.specs.Kept.{Kept, Gains};
 ghost use Rattle.prof_token.specs.Own.{Owns};
 ghost use Rattle.prof_token.specs.Moves.{Moves, fault_of};
@@ -200,8 +200,33 @@ fn read_piece<S: Source>(
     Ok(None)
 }
 
-/// Reads the rest of a string behind its first quote, and adds its characters to the text.
-pub fn read_string<S: Source>(
+/// Reads the rest of a string behind its first quote with the bytes before it, of which so many stand ahead, where it is
+/// plain and lies whole within the window, and says whether it is. Else nothing is read.
+pub fn read_plain_string(
+    input: &mut Input,
+    text: &mut Buffer,
+    before: usize,
+) -> Result<bool, JsonFault>
+    ensures string { result ≡ Ok true → ReadsString before input.old text.old input.new text.new }
+    ensures none { result ≡ Ok false → (input.new ≡ input.old) × (text.new ≡ text.old) }
+    ensures err { IfErr result (λ fault. (fault ≡ JsonFault.NoMemory) × (input.new ≡ input.old)) }
+{
+    let ahead = input.ahead();
+    if ahead.len() < before {
+        return Ok(false);
+    }
+    let rest = &ahead[before..];
+    let run = plain_len(rest);
+    if run == rest.len() || rest[run] != b'"' {
+        return Ok(false);
+    }
+    text.push(&rest[..run])?;
+    input.pass(before + run + 1);
+    Ok(true)
+}
+
+/// Reads the rest of a string behind its first quote, a piece at a time.
+fn read_pieces<S: Source>(
     input: &mut Input,
     src: &mut S,
     text: &mut Buffer,
@@ -226,4 +251,21 @@ pub fn read_string<S: Source>(
             Ok(waiting) => high = waiting,
         }
     }
+}
+
+/// Reads the rest of a string behind its first quote, and adds its characters to the text.
+pub fn read_string<S: Source>(
+    input: &mut Input,
+    src: &mut S,
+    text: &mut Buffer,
+) -> Result<(), JsonFault>
+    ensures moves { Moves (fault_of result) input.old (seen S.Counted src.old) input.new (seen S.Counted src.new) }
+    ensures own { OnOk result (Owns input.old.bytes (S.left src.old) input.new.bytes (S.left src.new)) }
+    ensures exact { (begun : Kept) (k : Role) (s : List ℕ) (ps : List Part) → Gains begun s text.old → depth ps ≤ max_depth →
+        Writes (fault_of result) begun input.old (S.left src.old) (chars k s None nothing ∷ ps) (λ t. told k t ∷ []) input.new (S.left src.new) text.new (λ t. ps) }
+{
+    if read_plain_string(input, text, 0)? {
+        return Ok(());
+    }
+    read_pieces(input, src, text)
 }

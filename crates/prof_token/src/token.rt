@@ -43,6 +43,10 @@ pub fn need_behind_blank<S: Source>(input: &mut Input, src: &mut S) -> Result<u8
     ensures behind { IfOk result (λ b. is_space b ≡ false) }
     ensures exact { (ps : List Part) → depth ps ≤ max_depth → finish ps ≡ None → Goes (fault_of result) input.old (S.left src.old) (blank ∷ ps) [] input.new (S.left src.new) (blank ∷ ps) }
 {
+    let ahead = input.ahead();
+    if !ahead.is_empty() && !is_blank(ahead[0]) {
+        return Ok(ahead[0]);
+    }
     match skip_blank(input, src) {
         Err(fault) => Err(fault),
         Ok(None) => Err(input.wrong()),

@@ -28,13 +28,6 @@ impl KeptText {
     {
         &self.bytes
     }
-
-    /// The same, where nothing more is to be written.
-    pub(crate) fn into_bytes(self) -> Vec<u8>
-        ensures { ⟦<KeptText as Counted>⟧.written self ≡ Some result.items }
-    {
-        self.bytes
-    }
 }
 
 impl Counted for KeptText {

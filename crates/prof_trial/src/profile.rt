@@ -6,27 +6,11 @@ ghost use Rattle.prof_layout.specs.Profile.{profile_of};
 ghost use Rattle.prof_read.specs.declared.refusal.ReadRefusal.{ReadRefusal};
 ghost use Rattle.sha2.specs.Sha256.{sha256};
 
-use crate::kept::KeptText;
-use prof_demo::generate;
+use prof_demo::GeneratedSource;
 use prof_io::NoMemory;
-use prof_memory::SteadySource;
 use prof_read::{Digest, ReadRefusal, read_profile};
 use prof_tables::Profile;
 use std::alloc::Global;
-
-/// How many bytes of the text are read at a time.
-const PIECE: usize = 65_536;
-
-/// The text that a number makes.
-fn made_text(alloc: Global, number: u32) -> Result<Vec<u8>, NoMemory>
-    ensures { IfOk result (λ text. text.items ≡ generated number) }
-{
-    let mut text = KeptText::new(alloc);
-    match generate(number, &mut text) {
-        Ok(()) => Ok(text.into_bytes()),
-        Err(_) => Err(NoMemory),
-    }
-}
 
 /// Nothing but want of memory can refuse a text that is a profile's.
 fn ran_out(refusal: ReadRefusal) -> NoMemory
@@ -42,8 +26,7 @@ pub fn made_profile(alloc: Global, number: u32) -> Result<(Profile, Digest), NoM
     ensures profile { IfOk result (λ r. r.0 ≡ profile_of (made number)) }
     ensures digest { IfOk result (λ r. r.1 ≡ sha256 (generated number)) }
 {
-    let text = made_text(alloc, number)?;
-    let mut source = SteadySource::new(text, PIECE);
+    let mut source = GeneratedSource::new(number);
     let (profile, digest, _) = match read_profile(alloc, &mut source) {
         Ok(read) => read,
         Err(refusal) => return Err(ran_out(refusal)),

@@ -18,7 +18,7 @@ returns-in_ok-push-in-Ok c =
     let old = c.args.column.now in
     let few : length old.cells ≤ c.args.most = let l = ap (λ (d : Cells). length d.cells) c.column.view_is in let v = c.len.ensures in omega arith in
     let state = ap (λ (d : Cells). d.state) c.column.view_is in
-    let cells = c.in_ok-push-in-Ok.ensures.items ∙ ap (λ (d : Cells). d.cells ++ c.in-Ok.value ∷ []) c.column.view_is in
+    let cells = c.in_ok-push-in-Ok.ensures ∙ ap (λ (d : Cells). d.cells ++ c.in-Ok.value ∷ []) c.column.view_is in
     let bad = ap (λ (d : Cells). d.bad) c.column.view_is in
     added-ok c.args.most old c.args.cell c.in-Ok.value _ _ _ c.in-Ok.is few state cells bad
 
@@ -31,9 +31,9 @@ returns-in_ok-push-in-Err c =
     let bad = ap (λ (d : Cells). d.bad) c.column.view_is in
     elim c.if-is_none.branch [
       | then-is_none w ↦
-          let same = rw w.column-inside-is at c.in_ok-push-in-Err.ensures.items in
+          let same = rw w.column-inside-is at c.in_ok-push-in-Err.ensures in
           rw w.column-inside-is (added-err c.args.most old c.args.cell c.in-Err.rule _ _ _ c.in-Err.is few state (same ∙ ap (λ (l : List (Option ℤ)). l ++ None ∷ []) cells) (row_is c.in-Err.rule _ (length old.cells) (let v = w.len-row.ensures in let l = ap (λ (x : List (Option ℤ)). length x) cells in omega arith) ∙ sym (or-first old.bad _ (sym (ap (λ (b : Option BadCell). is_some b) bad) ∙ w.if-is_none.ensures))))
       | else-is_none w ↦
-          let same = rw w.column-inside-is at c.in_ok-push-in-Err.ensures.items in
+          let same = rw w.column-inside-is at c.in_ok-push-in-Err.ensures in
           rw w.column-inside-is (added-err c.args.most old c.args.cell c.in-Err.rule _ _ _ c.in-Err.is few state (same ∙ ap (λ (l : List (Option ℤ)). l ++ None ∷ []) cells) (bad ∙ sym (or-later old.bad _ (sym (ap (λ (b : Option BadCell). is_some b) bad) ∙ w.if-is_none.ensures))))
     ]

@@ -7,9 +7,9 @@ use Rattle.prof_gecko.proofs.thread.build_thread.Goals as goal
 pub build_columns-requires : goal.build_columns-requires
 build_columns-requires c = record {
   default = c.requires.default;
-  ranges = columns_ranges (shift_of c.args.shift) c.args.thread c.of-columns.result c.of-columns.ensures c.requires.ranges;
+  ranges = columns_ranges (shift_of c.args.shift) c.args.thread c.in_ok-columns.columns c.in_ok-columns.ensures c.requires.ranges;
 }
 
 pub returns : goal.returns
-returns c = thread_made (λ (t : ThreadTables). t) _ c.args.number c.args.common.categories c.args.common.default c.args.libs.now c.of-columns.result (parts_of (shift_of c.args.shift) c.args.thread)
-    c.of-columns.ensures c.build_columns.ensures
+returns c = thread_made (λ (t : ThreadTables). t) _ c.args.number c.args.common.categories c.args.common.default c.args.libs.now c.in_ok-columns.columns (parts_of (shift_of c.args.shift) c.args.thread)
+    c.in_ok-columns.ensures c.build_columns.ensures

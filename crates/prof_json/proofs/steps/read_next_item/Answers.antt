@@ -1,38 +1,30 @@
-use Rattle.std.proofs.Common.{ap, arith}
-use Rattle.std.specs.Prelude.{Ok}
-use Rattle.prof_json.specs.Gives.{told_by}
+use Rattle.std.proofs.Common.{arith}
 use Rattle.prof_json.specs.Parts.{behind}
-use Rattle.prof_json.specs.declared.answer.Event.TheVariants.{Number}
-use Rattle.prof_json.proofs.Enclosing.{begins_number, value_steps, takes_item}
-use Rattle.prof_json.proofs.Items.{adds_plain, goes_item}
-use Rattle.prof_token.proofs.Journeys.{moves_here, moves_pass}
-use Rattle.prof_json.proofs.Standing as st
-use Rattle.prof_token.proofs.Texts.{gains_on}
-use Rattle.prof_token.proofs.Written.{writes_goes}
-use Rattle.prof_token.proofs.Owning.{plain_own, more_own, owns_run}
+use Rattle.prof_json.specs.Step.{ReadsPlain}
+use Rattle.prof_json.proofs.Enclosing.{steps_value, takes_item}
+use Rattle.prof_json.proofs.Items.{comma_turns}
+use Rattle.prof_json.proofs.Standing.{in_array, behind_few}
+use Rattle.prof_json.proofs.Whole.{plain_moves, plain_begins, plain_owns, plain_writes}
 use Rattle.prof_json.proofs.steps.read_next_item.Goals as goal
 
-pub returns-then-branch-clause-moves : goal.returns-then-branch-clause-moves
-returns-then-branch-clause-moves g c =
-    let r = c.in_ok-read_plain_item.ensures.item (ap Ok c.if-branch.true) in
-    moves_pass (moves_here _ _) r.passed
+pub returns-in-Some-clause-moves : goal.returns-in-Some-clause-moves
+returns-in-Some-clause-moves g c =
+    let r : ReadsPlain 44 (behind c.deref.result.now) c.args.input.now c.args.text.now c.read_plain_value.new.input c.read_plain_value.new.text c.in-Some.event = rw c.in-Some.is at c.in_ok-event.ensures.value in
+    plain_moves _ r
 
-pub returns-then-branch-clause-ok : goal.returns-then-branch-clause-ok
-returns-then-branch-clause-ok g c =
-    let r = c.in_ok-read_plain_item.ensures.item (ap Ok c.if-branch.true) in
-    let place = r.passed.place in
-    value_steps _ _ _ _ c.args.input.now _ _ _ (Ok Number) (takes_item c.requires.within) (omega arith) (begins_number c.requires.few (omega arith) (adds_plain r.plain r.kept))
+pub returns-in-Some-clause-ok : goal.returns-in-Some-clause-ok
+returns-in-Some-clause-ok g c =
+    let r : ReadsPlain 44 (behind c.deref.result.now) c.args.input.now c.args.text.now c.read_plain_value.new.input c.read_plain_value.new.text c.in-Some.event = rw c.in-Some.is at c.in_ok-event.ensures.value in
+    steps_value {b = c.args.input.now} (takes_item c.requires.within) (omega arith) (plain_begins c.requires.few r)
 
-pub returns-then-branch-clause-exact : goal.returns-then-branch-clause-exact
-returns-then-branch-clause-exact g c = λ begun h.
-    let r = c.in_ok-read_plain_item.ensures.item (ap Ok c.if-branch.true) in
-    let w = c.requires.within in
+pub returns-in-Some-clause-own : goal.returns-in-Some-clause-own
+returns-in-Some-clause-own g c =
+    let r : ReadsPlain 44 (behind c.deref.result.now) c.args.input.now c.args.text.now c.read_plain_value.new.input c.read_plain_value.new.text c.in-Some.event = rw c.in-Some.is at c.in_ok-event.ensures.value in
+    plain_owns _ r
+
+pub returns-in-Some-clause-exact : goal.returns-in-Some-clause-exact
+returns-in-Some-clause-exact g c = λ begun h.
     let xs = c.args.brackets.now.items in
     let few = c.requires.few in
-    writes_goes (told_by (Ok Number)) (λ t. behind xs) r.text (gains_on h r.kept)
-    (goes_item (behind w.outer) r.text r.shown (st.in_array w) (st.behind_is xs few) (st.behind_few xs few) r.plain r.ahead r.passed r.next r.follows)
-
-pub returns-then-branch-clause-own : goal.returns-then-branch-clause-own
-returns-then-branch-clause-own g c =
-    let r = c.in_ok-read_plain_item.ensures.item (ap Ok c.if-branch.true) in
-    owns_run _ (more_own 44 (plain_own r.plain)) r.ahead r.passed
+    let r : ReadsPlain 44 (behind xs) c.args.input.now c.args.text.now c.read_plain_value.new.input c.read_plain_value.new.text c.in-Some.event = rw (c.in-Some.is, c.deref.ensures.value) at c.in_ok-event.ensures.value in
+    plain_writes xs few (comma_turns (behind c.requires.within.outer) (in_array c.requires.within) (behind_few xs few)) h r

@@ -1,35 +1,43 @@
-use Rattle.std.proofs.Common.{◌≡◌, ◌∷◌, [], true, false, refl, sym, ◌∙◌}
-use Rattle.std.proofs.lemmas.Result.{err_from_is_err_and}
-use Rattle.std.specs.Prelude.{None}
+use Rattle.std.proofs.Common.{◌∷◌, [], ap, arith}
+use Rattle.std.specs.Prelude.{Ok}
 use Rattle.prof_grammar.specs.Event.{number}
-use Rattle.prof_token.specs.Stages.{may_come}
 use Rattle.prof_json.specs.Parts.{behind}
-use Rattle.prof_token.proofs.Machines.{goes_trans}
+use Rattle.prof_token.proofs.Journeys.{moves_here, moves_pass}
+use Rattle.prof_token.proofs.Texts.{gains_on}
+use Rattle.prof_token.proofs.Written.{writes_goes}
+use Rattle.prof_json.proofs.Items.{adds_plain}
 use Rattle.prof_json.proofs.Standing.{behind_is, behind_few}
-use Rattle.prof_token.proofs.Written.{writes_goes, writes_fault}
-use Rattle.prof_json.proofs.Closing.{number_told, number_refused}
+use Rattle.prof_json.proofs.Whole.{number_some, owns_number, goes_shown}
 use Rattle.prof_json.proofs.value.read_whole_number.Goals as goal
 
-pub returns-in_err-behind-clause-exact : goal.returns-in_err-behind-clause-exact
-returns-in_err-behind-clause-exact g c = λ begun qs e h few.
-    let r = c.from_residual in
-    let p = err_from_is_err_and r.result r.ensures.1 in
-    let ps = behind c.args.brackets.now in
-    let w = c.in_err-behind.ensures.exact begun qs ps e h (behind_few c.args.brackets.now few) in
-    rw (p.1, p.2) (writes_fault w.writes.goes)
+pub returns-then-branch-clause-moves : goal.returns-then-branch-clause-moves
+returns-then-branch-clause-moves g c =
+    let r = c.in_ok-read_plain_number.ensures.number (ap Ok c.if-branch.true) in
+    moves_pass (moves_here _ _) r.passed
 
-pub returns-then-may_follow-clause-exact : goal.returns-then-may_follow-clause-exact
-returns-then-may_follow-clause-exact g c = λ begun qs e h few.
-    let ps = behind c.args.brackets.now in
-    let w = c.in_ok-behind.ensures.exact begun qs ps e h (behind_few c.args.brackets.now few) in
-    let is : may_come ps c.in_ok-behind.behind ≡ true = sym c.may_follow.ensures ∙ c.if-may_follow.true in
-    let told = number_told w.stage w.writes.text c.in_ok-behind.behind (behind_is c.args.brackets.now few) (w.over refl) c.in_ok-behind.ensures.shown is in
-    writes_goes (λ t. number t ∷ []) (λ t. ps) w.writes.text (w.writes.kept refl) (goes_trans w.writes.goes told)
+pub returns-then-branch-clause-text : goal.returns-then-branch-clause-text
+returns-then-branch-clause-text g c =
+    let r = c.in_ok-read_plain_number.ensures.number (ap Ok c.if-branch.true) in
+    adds_plain r.plain r.kept
 
-pub returns-else-may_follow-clause-exact : goal.returns-else-may_follow-clause-exact
-returns-else-may_follow-clause-exact g c = λ begun qs e h few.
+pub returns-then-branch-clause-further : goal.returns-then-branch-clause-further
+returns-then-branch-clause-further g c =
+    let r = c.in_ok-read_plain_number.ensures.number (ap Ok c.if-branch.true) in
+    let some = number_some r.plain in
+    let place = r.passed.place in
+    omega arith
+
+pub returns-then-branch-clause-own : goal.returns-then-branch-clause-own
+returns-then-branch-clause-own g c = owns_number _ (c.in_ok-read_plain_number.ensures.number (ap Ok c.if-branch.true))
+
+pub returns-then-branch-clause-exact : goal.returns-then-branch-clause-exact
+returns-then-branch-clause-exact g c = λ begun qs e h few.
+    let r = c.in_ok-read_plain_number.ensures.number (ap Ok c.if-branch.true) in
     let ps = behind c.args.brackets.now in
-    let w = c.in_ok-behind.ensures.exact begun qs ps e h (behind_few c.args.brackets.now few) in
-    let no : may_come ps c.in_ok-behind.behind ≡ false = sym c.may_follow.ensures ∙ c.if-may_follow.false in
-    let refused = number_refused {b = c.args.input.now} {m = None} {ps = ps} {qs = ps} {es = []} w.stage w.writes.text c.in_ok-behind.behind (w.over refl) c.in_ok-behind.ensures.shown no c.wrong.ensures in
-    writes_fault (goes_trans w.writes.goes refused)
+    writes_goes (λ t. number t ∷ []) (λ t. ps) r.text (gains_on h r.kept) (goes_shown ps c.args.first c.requires.next c.requires.begins e (behind_is c.args.brackets.now few) (behind_few c.args.brackets.now few) r)
+
+pub returns-clause-exact : goal.returns-clause-exact
+returns-clause-exact g c = λ begun qs e h few.
+    let same = c.in_ok-read_plain_number.ensures.none (ap Ok c.if-branch.false) in
+    let w = c.read_number_parts.ensures.exact begun qs e (rw same.1 h) few in
+    rw same.0 at w

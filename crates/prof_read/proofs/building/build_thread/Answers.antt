@@ -3,7 +3,7 @@ use Rattle.prof_grammar.specs.Value.{Value}
 use Rattle.prof_tables.specs.Threads.{ThreadTables}
 use Rattle.prof_layout.specs.Profile.{common_of, common_member}
 use Rattle.prof_read.proofs.Refusing.{no_memory, names-unbuilt}
-use Rattle.prof_read.proofs.Threading.{thread_counting, few_common, own_base, shared_base, own_fails, own_tables, shared_fails, shared_stands_on, building_memory}
+use Rattle.prof_read.proofs.Threading.{thread_counting, few_common, own_base, shared_base, own_fails, own_tables, shared_fails, shared_stands_on, building_memory, building_unbuilt}
 use Rattle.prof_read.proofs.building.build_thread.Goals as goal
 
 pub returns-in_err-thread-in-Own-clause-thread : goal.returns-in_err-thread-in-Own-clause-thread
@@ -50,3 +50,9 @@ returns-in_ok-thread-in-Shared-clause-thread c = λ v ms stands are.
       sym (shared_fails v (Value.object ms) c.args.number c.in_ok-shared-in-Shared.shared.value _ b.0 copy own) ∙ made.0,
       made.1 ∙ shared_stands_on v (Value.object ms) c.args.number c.in_ok-shared-in-Shared.shared.value _ b.0 copy own made.0,
     )
+
+pub returns-in_err-tables-in-Own-clause-thread : goal.returns-in_err-tables-in-Own-clause-thread
+returns-in_err-tables-in-Own-clause-thread c = λ v ms stands are. no_memory _ c.from_residual-in_err-tables-in-Own.result _ c.from_residual-in_err-tables-in-Own.ensures.1
+
+pub returns-in_err-thread-in-Shared-clause-err : goal.returns-in_err-thread-in-Shared-clause-err
+returns-in_err-thread-in-Shared-clause-err c = building_unbuilt c.in_err-thread-in-Shared.field-0.0 c.from_residual-in_err-thread-in-Shared.result c.from_residual-in_err-thread-in-Shared.ensures.1

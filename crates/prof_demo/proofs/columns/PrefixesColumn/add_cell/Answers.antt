@@ -1,8 +1,9 @@
-use Rattle.std.proofs.Common.{[], sym}
+use Rattle.std.proofs.Common.{[], ◌∙◌, sym}
 use Rattle.prof_demo.specs.Generated.{prefix_text}
 use Rattle.prof_demo.proofs.Below.{cell_at}
 use Rattle.prof_page.proofs.Pages.{gathers_same}
 use Rattle.prof_demo.proofs.columns.PrefixesColumn.add_cell.Goals as goal
 
 pub returns : goal.returns
-returns g c = gathers_same _ _ _ _ _ _ _ c.add_prefix.ensures (sym (cell_at prefix_text 60000 c.args.row [] c.requires))
+returns g c =
+    gathers_same _ _ _ _ _ _ _ c.add_text.ensures (c.as_str.ensures.value ∙ c.prefix_cell-cell.ensures ∙ sym (cell_at prefix_text 60000 c.args.row [] c.requires))

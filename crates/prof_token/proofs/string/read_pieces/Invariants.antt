@@ -8,7 +8,7 @@ use Rattle.prof_token.specs.Writes.{Writes, silent}
 use Rattle.prof_token.specs.Kept.{Kept, Gains}
 use Rattle.prof_io.specs.Outside.{seen}
 use Rattle.prof_token.specs.Moves.{Moves}
-use Rattle.prof_token.proofs.string.read_string.Given as goal
+use Rattle.prof_token.proofs.string.read_pieces.Given as goal
 
 abbrev pub invariant-pieces : goal.invariant-pieces
 invariant-pieces g l = record {
